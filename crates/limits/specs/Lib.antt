@@ -1,0 +1,3 @@
+pub mod Range
+pub mod Gaps
+pub mod Lawful
