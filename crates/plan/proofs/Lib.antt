@@ -1,0 +1,17 @@
+pub mod Gcd
+pub mod Common
+pub mod Frames
+pub mod Exact
+pub mod First
+pub mod Least
+pub mod Empty
+pub mod Any
+pub mod Every
+pub mod Inserted
+pub mod Rotate
+pub mod Gather
+pub mod Written
+pub mod Steps
+pub mod Good
+pub mod Keep
+pub mod Recorded

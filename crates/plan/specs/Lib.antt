@@ -1,0 +1,14 @@
+pub mod Bounds
+pub mod Cycle
+pub mod Regular
+pub mod Fraction
+pub mod Message
+pub mod Candidate
+pub mod Standing
+pub mod Ledger
+pub mod Fault
+pub mod Gathered
+pub mod Sound
+pub mod Queries
+pub mod Position
+pub mod Held

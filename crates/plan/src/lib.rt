@@ -1,0 +1,24 @@
+//! The plan of one output port: its links, their flows, and the pairs that serve a link.
+ghost use Rattle.plan.specs.Sound.{Sound};
+use tables::Tables;
+
+mod bounds;
+mod candidate;
+mod cycle;
+mod edits;
+pub mod fault;
+pub mod flow;
+mod link_flows;
+mod message;
+mod queries;
+mod tables;
+
+pub use fault::PlanFault;
+pub use flow::Flow;
+
+/// The links of a port, in the order of their adding, and their flows.
+#[derive(Drop)]
+pub struct Plan {
+    tables: Tables,
+    ghost sound: { Sound tables },
+}

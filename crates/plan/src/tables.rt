@@ -1,0 +1,115 @@
+ghost use mathlib.Core.Path.{_≡_};
+ghost use Prim.Native.Nat.{_≤_};
+ghost use lib.ListN.{length};
+ghost use Rattle.limits.specs.Range.{any, among};
+ghost use Rattle.plan.specs.Ledger.{answer, effect, add-link, add-flow};
+ghost use Rattle.plan.specs.Position.{position-of};
+ghost use Rattle.plan.specs.Sound.{recorded, Fits, Sound};
+ghost use Rattle.plan.specs.Standing.{is-of, named};
+use crate::bounds::MAX_FLOWS;
+use crate::bounds::MAX_LINKS;
+use crate::flow::Flow;
+
+/// What a row holds that no flow has taken yet.
+pub(crate) const NO_FLOW: Flow = Flow {
+    name: 0,
+    link: 0,
+    payload: 0,
+    cycle: 0,
+};
+
+/// The links in the order of their adding and the flows in rising name, each in the first rows of its table.
+#[derive(Clone, Copy)]
+pub(crate) struct Tables {
+    pub(crate) links: [u16; MAX_LINKS],
+    pub(crate) link_count: usize,
+    pub(crate) flows: [Flow; MAX_FLOWS],
+    pub(crate) flow_count: usize,
+}
+
+impl Tables {
+    /// The links that stand.
+    pub(crate) fn links(&self) -> &[u16]
+        requires { ⌜ Fits (now self) ⌝ }
+        ensures { λ r. ⌜ now r ≡ recorded (now (self .entry)) .links ⌝ }
+    {
+        &self.links[0..self.link_count]
+    }
+
+    /// The flows that stand.
+    pub(crate) fn flows(&self) -> &[Flow]
+        requires { ⌜ Fits (now self) ⌝ }
+        ensures { λ r. ⌜ now r ≡ recorded (now (self .entry)) .flows ⌝ }
+    {
+        &self.flows[0..self.flow_count]
+    }
+
+    /// Enters a link as the last.
+    pub(crate) fn push_link(&mut self, name: u16)
+        requires sound { ⌜ Sound (now self) ⌝ }
+        requires accepted { ⌜ 0 ≡ answer (recorded (now self)) (add-link name) ⌝ }
+        ensures recorded { λ _. ⌜ recorded (now (self .exit)) ≡ effect (recorded (now (self .entry))) (add-link name) ⌝ }
+        ensures sound { λ _. ⌜ Sound (now (self .exit)) ⌝ }
+    {
+        self.links[self.link_count] = name;
+        self.link_count += 1;
+    }
+
+    /// Enters a flow before the first whose name is not below its own.
+    pub(crate) fn put_flow(&mut self, flow: Flow)
+        requires sound { ⌜ Sound (now self) ⌝ }
+        requires accepted { ⌜ 0 ≡ answer (recorded (now self)) (add-flow (flow .link) (flow .name) (flow .payload) (flow .cycle)) ⌝ }
+        ensures recorded { λ _. ⌜ recorded (now (self .exit)) ≡ effect (recorded (now (self .entry))) (add-flow (flow .link) (flow .name) (flow .payload) (flow .cycle)) ⌝ }
+        ensures sound { λ _. ⌜ Sound (now (self .exit)) ⌝ }
+    {
+        let at = position(self.flows(), flow.name);
+        let end = self.flow_count + 1;
+        self.flows[at..end].rotate_right(1);
+        self.flows[at] = flow;
+        self.flow_count = end;
+    }
+}
+
+/// Is there a link of that name?
+pub(crate) fn has_link(links: &[u16], name: u16) -> bool
+    ensures { λ r. ⌜ r ≡ among (now (links .entry)) name ⌝ }
+{
+    links.contains(&name)
+}
+
+/// Is there a flow of that name?
+pub(crate) fn has_flow(flows: &[Flow], name: u16) -> bool
+    ensures { λ r. ⌜ r ≡ named (now (flows .entry)) name ⌝ }
+{
+    for flow in flows {
+        if flow.name == name {
+            return true;
+        }
+    }
+    false
+}
+
+/// Does one of the flows belong to the link?
+pub(crate) fn has_flow_of(flows: &[Flow], link: u16) -> bool
+    ensures { λ r. ⌜ r ≡ any (is-of link) (now (flows .entry)) ⌝ }
+{
+    for flow in flows {
+        if flow.link == link {
+            return true;
+        }
+    }
+    false
+}
+
+/// Where a flow of that name stands or would be put.
+fn position(flows: &[Flow], name: u16) -> usize
+    ensures position { λ r. ⌜ r ≡ position-of name (now (flows .entry)) ⌝ }
+    ensures bound { λ r. ⌜ r ≤ length (now (flows .entry)) ⌝ }
+{
+    for (i, flow) in flows.iter().enumerate() {
+        if flow.name >= name {
+            return i;
+        }
+    }
+    flows.len()
+}
