@@ -18,8 +18,11 @@ positive-common : (fs : List Flow) → Positive fs → 0 < common fs
 positive-common [] p = omega arith
 positive-common (f ∷ fs) p = lcm-pos (f .cycle) (common fs) (p .0) (positive-common fs (p .1))
 
+positive : (fs : List Flow) → All-in-range fs → Positive fs
+positive fs r = all-weaker _ (λ f. 0 < f .cycle) (λ f e. e .2) fs r
+
 pub common-pos : (fs : List Flow) → All-in-range fs → 0 < common fs
-common-pos fs r = positive-common fs (all-weaker _ (λ f. 0 < f .cycle) (λ f e. e .2) fs r)
+common-pos fs r = positive-common fs (positive fs r)
 
 pub common-divided : (fs : List Flow) → All (λ f. f .cycle ∣ common fs) fs
 common-divided [] = tt
@@ -28,9 +31,12 @@ common-divided (f ∷ fs) = (
   all-weaker _ (λ g. g .cycle ∣ lcm (f .cycle) (common fs)) (λ g d. dvd-trans (g .cycle) d (lcm-right (f .cycle) (common fs))) fs (common-divided fs),
 )
 
-common-divides : (fs : List Flow) → Positive fs → (m : ℕ) → All (λ f. f .cycle ∣ m) fs → common fs ∣ m
-common-divides [] p m d = one-dvd m
-common-divides (f ∷ fs) p m d = lcm-least (f .cycle) (common fs) m (positive-common fs (p .1)) (d .0) (common-divides fs (p .1) m (d .1))
+divides-positive : (fs : List Flow) → Positive fs → (m : ℕ) → All (λ f. f .cycle ∣ m) fs → common fs ∣ m
+divides-positive [] p m d = one-dvd m
+divides-positive (f ∷ fs) p m d = lcm-least (f .cycle) (common fs) m (positive-common fs (p .1)) (d .0) (divides-positive fs (p .1) m (d .1))
+
+pub common-divides : (fs : List Flow) → All-in-range fs → (m : ℕ) → All (λ f. f .cycle ∣ m) fs → common fs ∣ m
+common-divides fs r = divides-positive fs (positive fs r)
 
 pub common-least : Least-common
-common-least fs p = (common-divided fs, common-divides fs p)
+common-least fs p = (common-divided fs, divides-positive fs p)

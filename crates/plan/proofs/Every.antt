@@ -1,16 +1,18 @@
 -- Tests on every element, single names and rising names, as facts.
-use mathlib.Core.Path.{_≡_, refl, sym, subst}
-use mathlib.Core.Bool.{Bool, true, false}
-use mathlib.Core.List.{List, [], _∷_, _++_}
+use mathlib.Core.Path.{_≡_, refl, sym, ap, subst, _∙_}
+use mathlib.Core.Bool.{Bool, true, false, _||_}
+use mathlib.Core.List.{List, [], _∷_, _++_, map}
 use mathlib.Core.Logic.{inl, inr}
 use Prim.Native.Nat.{ℕ, _<_}
+use native.Mathlib.Omega.{arith}
 use lib.Dec.{eqb, ltb}
 use Rattle.std.specs.shelf.Lists.{All}
 use Rattle.std.proofs.shelf.Elements.{all-weaker}
-use Rattle.std.proofs.shelf.Tests.{eqb-true, eqb-false, ltb-true, lt-ltb, ne-eqb, and-parts, and-from, or-parts, or-left, or-right, or-cases, not-true, not-from-false, false≢true}
+use Rattle.std.proofs.shelf.Tests.{eqb-true, eqb-false, ltb-true, lt-ltb, ne-eqb, and-parts, and-from, or-from, or-parts, or-left, or-right, or-cases, not-true, not-from-false, false≢true}
 use Rattle.limits.specs.Range.{every, among}
 use Rattle.plan.specs.declared.flow.Flow.{Flow}
 use Rattle.plan.specs.Sound.{single, rising}
+use Rattle.plan.specs.Standing.{named}
 
 pub all-from-every : {X : Type 0} (test : X → Bool) (xs : List X) → every test xs ≡ true → All (λ x. test x ≡ true) xs
 all-from-every test [] h = tt
@@ -60,3 +62,16 @@ rising-from-up [] h = refl
 rising-from-up (f ∷ fs) h =
     and-from _ _ (every-from-all (λ g. ltb (f .name) (g .name)) fs (all-weaker _ (λ g. ltb (f .name) (g .name) ≡ true) (λ g e. lt-ltb (f .name) (g .name) e) fs (h .0)))
     (rising-from-up fs (h .1))
+
+pub not-named-above : (n : ℕ) (fs : List Flow) → All (λ f. n < f .name) fs → named fs n ≡ false
+not-named-above n [] h = refl
+not-named-above n (f ∷ fs) h = or-from _ _ (ne-eqb (f .name) n (λ e. omega arith)) (not-named-above n fs (h .1))
+
+among-names : (n : ℕ) (fs : List Flow) → among (map (λ f. f .name) fs) n ≡ named fs n
+among-names n [] = refl
+among-names n (f ∷ fs) = ap (λ b. eqb (f .name) n || b) (among-names n fs)
+
+pub single-from-up : (fs : List Flow) → Up fs → single (map (λ f. f .name) fs) ≡ true
+single-from-up [] h = refl
+single-from-up (f ∷ fs) h =
+    and-from _ _ (not-from-false _ (among-names (f .name) fs ∙ not-named-above (f .name) fs (h .0))) (single-from-up fs (h .1))

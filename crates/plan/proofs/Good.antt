@@ -1,11 +1,11 @@
 -- What the standing of every plan keeps, as facts, and what they tell of the flows of a link.
-use mathlib.Core.Path.{_≡_}
+use mathlib.Core.Path.{_≡_, sym, ap, subst}
 use mathlib.Core.Bool.{true}
 use Prim.Native.Nat.{ℕ, _≤_}
 use native.Mathlib.Omega.{arith}
-use lib.ListN.{length}
+use lib.ListN.{length, getD}
 use Rattle.std.specs.shelf.Lists.{All}
-use Rattle.std.proofs.shelf.Elements.{all-weaker, all-kept-by}
+use Rattle.std.proofs.shelf.Elements.{all-weaker, all-kept-by, all-getD}
 use Rattle.std.proofs.shelf.Sums.{length-kept-by, countBy-le-length}
 use Rattle.std.proofs.shelf.Tests.{leb-true, le-leb, and-parts, and-from}
 use Rattle.limits.specs.Range.{within}
@@ -13,10 +13,13 @@ use Rattle.limits.proofs.Within.{le-from-within}
 use Rattle.plan.specs.declared.flow.Flow.{Flow}
 use Rattle.plan.specs.Bounds.{max-links, max-flows, max-payload, max-cycle, max-common-cycle}
 use Rattle.plan.specs.Cycle.{common}
+use Rattle.plan.specs.Position.{position-of}
 use Rattle.plan.specs.Regular.{In-range, All-in-range, Regular}
 use Rattle.plan.specs.Sound.{single, proper, good}
-use Rattle.plan.specs.Standing.{Standing, stands, is-of, flows-of, short-cycle}
+use Rattle.plan.specs.Standing.{Standing, stands, named, link-if, link-of-flow, is-of, flows-of, short-cycle}
+use Rattle.plan.proofs.Empty.{nil}
 use Rattle.plan.proofs.Every.{all-from-every, every-from-all, all-at, Up, up-from-rising, rising-from-up}
+use Rattle.plan.proofs.Found.{found, found-within, found-flow}
 
 pub record Good (st : Standing) : Type 0 where
   pub few-links : length (st .links) ≤ max-links
@@ -56,8 +59,17 @@ in-range st f h =
     let c = le-from-within 1 max-cycle (f .cycle) (b .1) in
     (p .0, p .1, c .0, c .1)
 
-pub all-in-range : (st : Standing) → good st ≡ true → All-in-range (st .flows)
-all-in-range st h = all-weaker _ In-range (in-range st) (st .flows) (facts-from-good st h .each)
+pub all-in-range : (st : Standing) → Good st → All-in-range (st .flows)
+all-in-range st g = all-weaker _ In-range (in-range st) (st .flows) (g .each)
+
+-- the link of a flow that stands does so too
+pub link-stands : (st : Standing) (n : ℕ) → Good st → named (st .flows) n ≡ true → stands st (link-of-flow n (st .flows)) ≡ true
+link-stands st n g h =
+    let at = found n (st .flows) (g .up) h in
+    let f = getD (st .flows) (position-of n (st .flows)) nil in
+    let own = ap link-if (found-flow at) in
+    let each = all-getD (λ x. proper st x ≡ true) (st .flows) _ nil (found-within at) (g .each) in
+    subst (λ k. stands st k ≡ true) (sym own) (and-parts (stands st (f .link)) _ each .0)
 
 pub regular : (st : Standing) (k : ℕ) → good st ≡ true → stands st k ≡ true → Regular (flows-of st k)
 regular st k h e =
@@ -65,7 +77,7 @@ regular st k h e =
     let fewer = countBy-le-length (is-of k) (st .flows) in
     let same = length-kept-by (is-of k) (st .flows) in
     record {
-      range = all-kept-by (is-of k) In-range (st .flows) (all-in-range st h);
+      range = all-kept-by (is-of k) In-range (st .flows) (all-in-range st g);
       few = omega (arith, g .few-flows);
       short = all-at (λ x. common (flows-of st x) ≤ max-common-cycle) (st .links) k (g .short) e;
     }

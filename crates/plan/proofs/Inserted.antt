@@ -8,12 +8,13 @@ use lib.Dec.{ltb}
 use lib.ListN.{length}
 use Rattle.std.specs.shelf.Lists.{All, inserted}
 use Rattle.std.proofs.shelf.Elements.{all-weaker, all-kept-by}
-use Rattle.std.proofs.shelf.Tests.{eqb-false, ltb-true, ltb-false, or-parts, cond-true, cond-false, cond-both}
+use Rattle.std.proofs.shelf.Tests.{eqb-false, le-ltb, ltb-true, ltb-false, or-parts, cond-true, cond-false, cond-both}
 use Rattle.plan.specs.declared.flow.Flow.{Flow}
 use Rattle.plan.specs.Cycle.{lcm, common}
+use Rattle.plan.specs.Edited.{insert}
 use Rattle.plan.specs.Position.{position-of}
 use Rattle.plan.specs.Regular.{In-range, All-in-range}
-use Rattle.plan.specs.Standing.{named, is-of, of-link, insert}
+use Rattle.plan.specs.Standing.{named, is-of, of-link}
 use Rattle.plan.proofs.Common.{common-pos}
 use Rattle.plan.proofs.Every.{Up}
 use Rattle.plan.proofs.Gcd.{lcm-swap}
@@ -25,6 +26,10 @@ insert-at-position f (g ∷ gs) =
       | true ↦ ap (λ l. g ∷ l) (insert-at-position f gs)
       | false ↦ refl
     ]
+
+pub insert-first : (f : Flow) (fs : List Flow) → All (λ g. f .name < g .name) fs → insert f fs ≡ f ∷ fs
+insert-first f [] h = refl
+insert-first f (g ∷ gs) h = cond-false _ _ _ (le-ltb (g .name) (f .name) (omega arith))
 
 pub length-insert : (f : Flow) (fs : List Flow) → length (insert f fs) ≡ length fs + 1
 length-insert f [] = omega arith

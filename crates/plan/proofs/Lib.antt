@@ -7,7 +7,10 @@ pub mod Least
 pub mod Empty
 pub mod Any
 pub mod Every
+pub mod Found
 pub mod Inserted
+pub mod Removed
+pub mod Amended
 pub mod Rotate
 pub mod Gather
 pub mod Written

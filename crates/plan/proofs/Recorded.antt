@@ -1,5 +1,5 @@
--- What the tables record: standings with equal parts are equal, and an accepted call finds room.
-use mathlib.Core.Path.{_≡_}
+-- What the tables record: standings with equal parts are equal, and an accepted call finds room or its row.
+use mathlib.Core.Path.{_≡_, sym, ap, subst, _∙_}
 use mathlib.Core.Bool.{true}
 use mathlib.Core.List.{List}
 use Prim.Native.Nat.{ℕ, _<_, _≤_}
@@ -11,9 +11,13 @@ use Rattle.std.proofs.shelf.Tests.{ltb-true}
 use Rattle.plan.specs.declared.flow.Flow.{Flow}
 use Rattle.plan.specs.declared.tables.Tables.{Tables}
 use Rattle.plan.specs.Bounds.{max-links, max-flows}
-use Rattle.plan.specs.Ledger.{add-link, add-flow, answer}
-use Rattle.plan.specs.Sound.{recorded, Fits}
-use Rattle.plan.specs.Standing.{Standing}
+use Rattle.plan.specs.declared.call.Call.the-variants.{AddLink, AddFlow}
+use Rattle.plan.specs.Ledger.{answer}
+use Rattle.plan.specs.Position.{position-of}
+use Rattle.plan.specs.Sound.{recorded, Fits, Sound}
+use Rattle.plan.specs.Standing.{Standing, named}
+use Rattle.plan.proofs.Found.{Found, found, found-within}
+use Rattle.plan.proofs.Good.{facts-from-good}
 use Rattle.plan.proofs.Steps.{all-yes}
 
 -- a table of which fewer than all rows are taken has room
@@ -22,12 +26,20 @@ room rows count most le long few =
     let taken = length-take-le count rows (omega arith) in
     omega (arith, ltb-true (length (take count rows)) most few)
 
-pub room-for-link : (t : Tables) (name : ℕ) → Fits t → 0 ≡ answer (recorded t) (add-link name) → t .«link_count» < max-links
-room-for-link t name fits h = room (t .links) (t .«link_count») max-links (fits .0) (fits .2) (all-yes (recorded t) (add-link name) h .0)
+pub room-for-link : (t : Tables) (name : ℕ) → Fits t → 0 ≡ answer (recorded t) (AddLink name) → t .«link_count» < max-links
+room-for-link t name fits h = room (t .links) (t .«link_count») max-links (fits .0) (fits .2) (all-yes (recorded t) (AddLink name) h .0)
 
-pub room-for-flow : (t : Tables) (link name payload cycle : ℕ) → Fits t → 0 ≡ answer (recorded t) (add-flow link name payload cycle) → t .«flow_count» < max-flows
+pub room-for-flow : (t : Tables) (link name payload cycle : ℕ) → Fits t → 0 ≡ answer (recorded t) (AddFlow link name payload cycle) → t .«flow_count» < max-flows
 room-for-flow t link name payload cycle fits h =
-    room (t .flows) (t .«flow_count») max-flows (fits .1) (fits .3) (all-yes (recorded t) (add-flow link name payload cycle) h .1 .1 .0)
+    room (t .flows) (t .«flow_count») max-flows (fits .1) (fits .3) (all-yes (recorded t) (AddFlow link name payload cycle) h .1 .1 .0)
 
 pub same-standing : (ks ls : List ℕ) (fs gs : List Flow) → ks ≡ ls → fs ≡ gs → _≡_ {A = Standing} (record { links = ks; flows = fs }) (record { links = ls; flows = gs })
 same-standing ks ls fs gs e h = λ i. record { links = e i; flows = h i }
+
+-- the row that the code found is that of the flow, and within the count
+module _ (t : Tables) (n at : ℕ) (given : List Flow) (sound : Sound t) (same : given ≡ recorded t .flows) (is : at ≡ position-of n given) (h : named (recorded t .flows) n ≡ true) where
+  pub found-row : Found n (recorded t .flows) at
+  found-row = subst (Found n (recorded t .flows)) (sym (is ∙ ap (position-of n) same)) (found n (recorded t .flows) (facts-from-good (recorded t) (sound .1) .up) h)
+
+  pub row-within : at < t .«flow_count»
+  row-within = let long = length-take-le (t .«flow_count») (t .flows) (omega (arith, sound .0 .1, sound .0 .3)) in omega (arith, found-within found-row)

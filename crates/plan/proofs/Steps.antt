@@ -5,7 +5,9 @@ use mathlib.Core.Bool.{Bool, true, false, cond}
 use Prim.Native.Nat.{ℕ, _<_}
 use native.Mathlib.Omega.{arith}
 use Rattle.std.specs.shelf.Lists.{All}
-use Rattle.plan.specs.Ledger.{Call, add-link, add-flow, Questions, first-no, questions, answer}
+use Rattle.plan.specs.declared.call.Call.{Call}
+use Rattle.plan.specs.declared.call.Call.the-variants.{AddLink, AddFlow, Amend, Withdraw}
+use Rattle.plan.specs.Ledger.{Questions, first-no, questions, answer}
 use Rattle.plan.specs.Standing.{Standing}
 
 -- a question before the end was answered yes
@@ -18,8 +20,10 @@ no-no [] pos h = tt
 no-no (q ∷ qs) pos h = let a = asked (q .0) (q .1) (first-no qs) (pos .0) h in (a .0, no-no qs (pos .1) (a .1))
 
 numbered : (st : Standing) (call : Call) → All (λ q. 0 < q .0) (questions st call)
-numbered st (add-link name) = omega arith
-numbered st (add-flow link name payload cycle) = omega arith
+numbered st (AddLink name) = omega arith
+numbered st (AddFlow link flow payload cycle) = omega arith
+numbered st (Amend flow payload cycle) = omega arith
+numbered st (Withdraw flow) = omega arith
 
 -- an accepted call had every question answered yes
 pub all-yes : (st : Standing) (call : Call) → 0 ≡ answer st call → All (λ q. q .1 ≡ true) (questions st call)

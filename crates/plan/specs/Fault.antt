@@ -5,7 +5,7 @@ use lib.Chars.{codes}
 use Rattle.std.specs.declared.result.Result.{Result}
 use Rattle.std.specs.declared.result.Result.the-variants.{Ok, Err}
 use Rattle.plan.specs.declared.fault.PlanFault.{PlanFault}
-use Rattle.plan.specs.declared.fault.PlanFault.the-variants.{TooManyLinks, LinkTaken, UnknownLink, FlowTaken, TooManyFlows, PayloadOutOfRange, CycleOutOfRange, CommonCycleTooLong, LinkWithoutFlow}
+use Rattle.plan.specs.declared.fault.PlanFault.the-variants.{TooManyLinks, LinkTaken, UnknownLink, FlowTaken, TooManyFlows, PayloadOutOfRange, CycleOutOfRange, CommonCycleTooLong, UnknownFlow, LinkWithoutFlow}
 
 -- the number of the question that was answered no
 abbrev pub number : PlanFault → ℕ
@@ -17,6 +17,7 @@ number TooManyFlows = 8
 number PayloadOutOfRange = 9
 number CycleOutOfRange = 10
 number CommonCycleTooLong = 11
+number UnknownFlow = 12
 number LinkWithoutFlow = 13
 
 -- what is told beside the number: nothing so far, which is 0
@@ -29,6 +30,7 @@ detail TooManyFlows = 0
 detail PayloadOutOfRange = 0
 detail CycleOutOfRange = 0
 detail CommonCycleTooLong = 0
+detail UnknownFlow = 0
 detail LinkWithoutFlow = 0
 
 -- what the refusal says in words, as the codes of its characters
@@ -41,6 +43,7 @@ text TooManyFlows = codes "256 flows stand already"
 text PayloadOutOfRange = codes "the payload is not from 1 to 8192 bytes"
 text CycleOutOfRange = codes "the cycle is not from 1 to 10000 ms"
 text CommonCycleTooLong = codes "the common cycle of the link would exceed 1000000 ms"
+text UnknownFlow = codes "no flow of that name stands"
 text LinkWithoutFlow = codes "the link has no flow"
 
 -- what a call told: 0 where it was accepted, else the number of its refusal

@@ -5,6 +5,7 @@ pub mod Fraction
 pub mod Message
 pub mod Candidate
 pub mod Standing
+pub mod Edited
 pub mod Ledger
 pub mod Fault
 pub mod Gathered

@@ -2,7 +2,9 @@
 use mathlib.Core.Bool.{Bool, cond}
 use mathlib.Core.List.{List, [], _∷_}
 use Prim.Native.Nat.{ℕ}
-use lib.Dec.{eqb, ltb, leb}
+use lib.Dec.{eqb, leb}
+use Rattle.std.specs.declared.option.Option.{Option}
+use Rattle.std.specs.declared.option.Option.the-variants.{Some, None}
 use Rattle.std.specs.shelf.Lists.{kept-by}
 use Rattle.limits.specs.Range.{any, among}
 use Rattle.plan.specs.declared.flow.Flow.{Flow}
@@ -30,6 +32,20 @@ is-named name f = eqb (f .name) name
 abbrev pub named : List Flow → ℕ → Bool
 named fs name = any (is-named name) fs
 
+-- the flow of that name, if there is one
+abbrev pub flow-named : ℕ → List Flow → Option Flow
+flow-named name [] = None
+flow-named name (f ∷ fs) = cond (is-named name f) (Some f) (flow-named name fs)
+
+-- the link of a flow, or 0 for no flow
+abbrev pub link-if : Option Flow → ℕ
+link-if None = 0
+link-if (Some f) = f .link
+
+-- the link of the flow of that name, 0 where there is none
+abbrev pub link-of-flow : ℕ → List Flow → ℕ
+link-of-flow name fs = link-if (flow-named name fs)
+
 -- the flow is one of the link's
 abbrev pub is-of : ℕ → Flow → Bool
 is-of link f = eqb (f .link) link
@@ -49,8 +65,3 @@ has-flow st link = any (is-of link) (st .flows)
 -- the common cycle of the link is short enough
 abbrev pub short-cycle : Standing → ℕ → Bool
 short-cycle st link = leb (common (flows-of st link)) max-common-cycle
-
--- one flow more, before the first whose name is not below its own
-abbrev pub insert : Flow → List Flow → List Flow
-insert f [] = f ∷ []
-insert f (g ∷ gs) = cond (ltb (g .name) (f .name)) (g ∷ insert f gs) (f ∷ g ∷ gs)

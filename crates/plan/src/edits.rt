@@ -1,25 +1,16 @@
 ghost use mathlib.Core.Path.{_≡_};
-ghost use mathlib.Core.Bool.{true};
-ghost use Prim.Native.Nat.{_<_, _≤_};
-ghost use Rattle.plan.specs.Bounds.{max-cycle};
-ghost use Rattle.plan.specs.Cycle.{common};
 ghost use Rattle.plan.specs.Fault.{told, told-detail};
 ghost use Rattle.plan.specs.Held.{standing};
-ghost use Rattle.plan.specs.Ledger.{answer, after, add-link, add-flow};
-ghost use Rattle.plan.specs.Standing.{nothing, stands, of-link, insert};
+ghost use Rattle.plan.specs.declared.call.Call.the-variants.{AddLink, AddFlow, Amend, Withdraw};
+ghost use Rattle.plan.specs.Ledger.{answer, after};
+ghost use Rattle.plan.specs.Standing.{nothing};
 use crate::Plan;
-use crate::bounds::MAX_COMMON_CYCLE;
-use crate::bounds::MAX_CYCLE;
 use crate::bounds::MAX_FLOWS;
 use crate::bounds::MAX_LINKS;
-use crate::bounds::MAX_PAYLOAD;
-use crate::cycle::multiple;
 use crate::fault::PlanFault;
 use crate::flow::Flow;
 use crate::tables::NO_FLOW;
 use crate::tables::Tables;
-use crate::tables::has_flow;
-use crate::tables::has_link;
 
 impl Plan {
     /// A plan with no link and no flow.
@@ -38,9 +29,9 @@ impl Plan {
 
     /// Adds a link, the last in plan order.
     pub fn add_link(&mut self, name: u16) -> Result<(), PlanFault>
-        ensures number { λ r. ⌜ told r ≡ answer (standing (now (self .entry))) (add-link name) ⌝ }
+        ensures number { λ r. ⌜ told r ≡ answer (standing (now (self .entry))) (AddLink name) ⌝ }
         ensures detail { λ r. ⌜ told-detail r ≡ 0 ⌝ }
-        ensures after { λ _. ⌜ standing (now (self .exit)) ≡ after (standing (now (self .entry))) (add-link name) ⌝ }
+        ensures after { λ _. ⌜ standing (now (self .exit)) ≡ after (standing (now (self .entry))) (AddLink name) ⌝ }
     {
         self.ask_add_link(name)?;
         self.tables.push_link(name);
@@ -55,9 +46,9 @@ impl Plan {
         payload: u16,
         cycle: u16,
     ) -> Result<(), PlanFault>
-        ensures number { λ r. ⌜ told r ≡ answer (standing (now (self .entry))) (add-flow link flow payload cycle) ⌝ }
+        ensures number { λ r. ⌜ told r ≡ answer (standing (now (self .entry))) (AddFlow link flow payload cycle) ⌝ }
         ensures detail { λ r. ⌜ told-detail r ≡ 0 ⌝ }
-        ensures after { λ _. ⌜ standing (now (self .exit)) ≡ after (standing (now (self .entry))) (add-flow link flow payload cycle) ⌝ }
+        ensures after { λ _. ⌜ standing (now (self .exit)) ≡ after (standing (now (self .entry))) (AddFlow link flow payload cycle) ⌝ }
     {
         let flow = Flow {
             name: flow,
@@ -70,50 +61,25 @@ impl Plan {
         Ok(())
     }
 
-    /// Asks the questions of `add_link`.
-    fn ask_add_link(&self, name: u16) -> Result<(), PlanFault>
-        ensures { λ r. ⌜ told r ≡ answer (standing (now (self .entry))) (add-link name) ⌝ }
+    /// Gives a flow that stands another payload and cycle.
+    pub fn amend(&mut self, flow: u16, payload: u16, cycle: u16) -> Result<(), PlanFault>
+        ensures number { λ r. ⌜ told r ≡ answer (standing (now (self .entry))) (Amend flow payload cycle) ⌝ }
+        ensures detail { λ r. ⌜ told-detail r ≡ 0 ⌝ }
+        ensures after { λ _. ⌜ standing (now (self .exit)) ≡ after (standing (now (self .entry))) (Amend flow payload cycle) ⌝ }
     {
-        if self.tables.link_count >= MAX_LINKS {
-            return Err(PlanFault::TooManyLinks);
-        }
-        if has_link(self.links(), name) {
-            return Err(PlanFault::LinkTaken);
-        }
+        self.ask_amend(flow, payload, cycle)?;
+        self.tables.amend_flow(flow, payload, cycle);
         Ok(())
     }
 
-    /// Asks the questions of `add_flow`.
-    fn ask_add_flow(&self, flow: Flow) -> Result<(), PlanFault>
-        ensures { λ r. ⌜ told r ≡ answer (standing (now (self .entry))) (add-flow (flow .link) (flow .name) (flow .payload) (flow .cycle)) ⌝ }
+    /// Strikes a flow that stands, so that its place and its name are free again.
+    pub fn withdraw(&mut self, flow: u16) -> Result<(), PlanFault>
+        ensures number { λ r. ⌜ told r ≡ answer (standing (now (self .entry))) (Withdraw flow) ⌝ }
+        ensures detail { λ r. ⌜ told-detail r ≡ 0 ⌝ }
+        ensures after { λ _. ⌜ standing (now (self .exit)) ≡ after (standing (now (self .entry))) (Withdraw flow) ⌝ }
     {
-        if !has_link(self.links(), flow.link) {
-            return Err(PlanFault::UnknownLink);
-        }
-        if has_flow(self.flows(), flow.name) {
-            return Err(PlanFault::FlowTaken);
-        }
-        if self.tables.flow_count >= MAX_FLOWS {
-            return Err(PlanFault::TooManyFlows);
-        }
-        if flow.payload < 1 || flow.payload > MAX_PAYLOAD {
-            return Err(PlanFault::PayloadOutOfRange);
-        }
-        if flow.cycle < 1 || flow.cycle > MAX_CYCLE {
-            return Err(PlanFault::CycleOutOfRange);
-        }
-        if self.cycle_with(flow) > MAX_COMMON_CYCLE {
-            return Err(PlanFault::CommonCycleTooLong);
-        }
+        self.ask_withdraw(flow)?;
+        self.tables.remove_flow(flow);
         Ok(())
-    }
-
-    /// The common cycle that the flow's link would have with the flow.
-    fn cycle_with(&self, flow: Flow) -> u64
-        requires link { ⌜ stands (standing (now self)) (flow .link) ≡ true ⌝ }
-        requires cycle { ⌜ 0 < flow .cycle ⌝ ∗ ⌜ flow .cycle ≤ max-cycle ⌝ }
-        ensures { λ r. ⌜ r ≡ common (of-link (flow .link) (insert flow (standing (now (self .entry)) .flows))) ⌝ }
-    {
-        multiple(u64::from(flow.cycle), self.cycle_of(flow.link))
     }
 }

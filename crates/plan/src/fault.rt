@@ -14,6 +14,7 @@ pub enum PlanFault {
     PayloadOutOfRange,
     CycleOutOfRange,
     CommonCycleTooLong,
+    UnknownFlow,
     LinkWithoutFlow,
 }
 
@@ -31,6 +32,7 @@ impl PlanFault {
             PlanFault::PayloadOutOfRange => 9,
             PlanFault::CycleOutOfRange => 10,
             PlanFault::CommonCycleTooLong => 11,
+            PlanFault::UnknownFlow => 12,
             PlanFault::LinkWithoutFlow => 13,
         }
     }
@@ -48,6 +50,7 @@ impl PlanFault {
             | PlanFault::PayloadOutOfRange
             | PlanFault::CycleOutOfRange
             | PlanFault::CommonCycleTooLong
+            | PlanFault::UnknownFlow
             | PlanFault::LinkWithoutFlow => 0,
         }
     }
@@ -65,6 +68,7 @@ impl PlanFault {
             PlanFault::PayloadOutOfRange => "the payload is not from 1 to 8192 bytes",
             PlanFault::CycleOutOfRange => "the cycle is not from 1 to 10000 ms",
             PlanFault::CommonCycleTooLong => "the common cycle of the link would exceed 1000000 ms",
+            PlanFault::UnknownFlow => "no flow of that name stands",
             PlanFault::LinkWithoutFlow => "the link has no flow",
         }
     }

@@ -3,16 +3,20 @@ ghost use Rattle.plan.specs.Sound.{Sound};
 use tables::Tables;
 
 mod bounds;
+pub mod call;
 mod candidate;
 mod cycle;
 mod edits;
 pub mod fault;
 pub mod flow;
+mod link_cycle;
 mod link_flows;
 mod message;
 mod queries;
+mod questions;
 mod tables;
 
+pub use call::Call;
 pub use fault::PlanFault;
 pub use flow::Flow;
 

@@ -1,9 +1,7 @@
 ghost use mathlib.Core.Path.{_≡_};
 ghost use mathlib.Core.Bool.{true};
-ghost use Prim.Native.Nat.{_<_, _≤_};
 ghost use Rattle.std.specs.Vec.{made};
 ghost use Rattle.limits.specs.Gaps.{eight-gaps};
-ghost use Rattle.plan.specs.Bounds.{max-common-cycle};
 ghost use Rattle.plan.specs.Candidate.{candidates};
 ghost use Rattle.plan.specs.Cycle.{Euclid, Least-common, common};
 ghost use Rattle.plan.specs.Fault.{told, told-detail};
@@ -11,10 +9,9 @@ ghost use Rattle.plan.specs.Held.{standing};
 ghost use Rattle.plan.specs.Message.{Just-enough, Exact};
 ghost use Rattle.plan.specs.Queries.{Is, cycle-answer, pairs-answer, pairs-written, All-least};
 ghost use Rattle.plan.specs.Sound.{good};
-ghost use Rattle.plan.specs.Standing.{stands, flows-of};
+ghost use Rattle.plan.specs.Standing.{flows-of};
 use crate::Plan;
 use crate::candidate::write_candidates;
-use crate::cycle::common_cycle;
 use crate::fault::PlanFault;
 use crate::flow::Flow;
 use crate::link_flows::LinkFlows;
@@ -51,7 +48,7 @@ impl Plan {
         if !has_link(self.links(), link) {
             return Err(PlanFault::UnknownLink);
         }
-        Ok(self.cycle_of(link))
+        Ok(self.tables.cycle_of(link))
     }
 
     /// Writes the candidate of the link at each gap into the lent place, in rising gap.
@@ -90,16 +87,5 @@ impl Plan {
         ensures frames { λ _. ⌜ Just-enough ⌝ }
     {
         write_candidates(LinkFlows::gather(self.flows(), link).as_slice(), place);
-    }
-
-    /// The common cycle of a link that stands.
-    pub(crate) fn cycle_of(&self, link: u16) -> u64
-        requires { ⌜ stands (standing (now self)) link ≡ true ⌝ }
-        ensures value { λ r. ⌜ r ≡ common (flows-of (standing (now (self .entry))) link) ⌝ }
-        ensures range { λ r. ⌜ 0 < r ⌝ ∗ ⌜ r ≤ max-common-cycle ⌝ }
-        ensures least { λ _. ⌜ Least-common ⌝ }
-        ensures euclid { λ _. ⌜ Euclid ⌝ }
-    {
-        common_cycle(LinkFlows::gather(self.flows(), link).as_slice())
     }
 }

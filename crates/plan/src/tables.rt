@@ -1,11 +1,13 @@
 ghost use mathlib.Core.Path.{_≡_};
 ghost use Prim.Native.Nat.{_≤_};
 ghost use lib.ListN.{length};
+ghost use Rattle.std.specs.Options.{isSome};
 ghost use Rattle.limits.specs.Range.{any, among};
-ghost use Rattle.plan.specs.Ledger.{answer, effect, add-link, add-flow};
+ghost use Rattle.plan.specs.declared.call.Call.the-variants.{AddLink, AddFlow, Amend, Withdraw};
+ghost use Rattle.plan.specs.Ledger.{answer, effect};
 ghost use Rattle.plan.specs.Position.{position-of};
 ghost use Rattle.plan.specs.Sound.{recorded, Fits, Sound};
-ghost use Rattle.plan.specs.Standing.{is-of, named};
+ghost use Rattle.plan.specs.Standing.{is-of, named, flow-named};
 use crate::bounds::MAX_FLOWS;
 use crate::bounds::MAX_LINKS;
 use crate::flow::Flow;
@@ -47,8 +49,8 @@ impl Tables {
     /// Enters a link as the last.
     pub(crate) fn push_link(&mut self, name: u16)
         requires sound { ⌜ Sound (now self) ⌝ }
-        requires accepted { ⌜ 0 ≡ answer (recorded (now self)) (add-link name) ⌝ }
-        ensures recorded { λ _. ⌜ recorded (now (self .exit)) ≡ effect (recorded (now (self .entry))) (add-link name) ⌝ }
+        requires accepted { ⌜ 0 ≡ answer (recorded (now self)) (AddLink name) ⌝ }
+        ensures recorded { λ _. ⌜ recorded (now (self .exit)) ≡ effect (recorded (now (self .entry))) (AddLink name) ⌝ }
         ensures sound { λ _. ⌜ Sound (now (self .exit)) ⌝ }
     {
         self.links[self.link_count] = name;
@@ -58,8 +60,8 @@ impl Tables {
     /// Enters a flow before the first whose name is not below its own.
     pub(crate) fn put_flow(&mut self, flow: Flow)
         requires sound { ⌜ Sound (now self) ⌝ }
-        requires accepted { ⌜ 0 ≡ answer (recorded (now self)) (add-flow (flow .link) (flow .name) (flow .payload) (flow .cycle)) ⌝ }
-        ensures recorded { λ _. ⌜ recorded (now (self .exit)) ≡ effect (recorded (now (self .entry))) (add-flow (flow .link) (flow .name) (flow .payload) (flow .cycle)) ⌝ }
+        requires accepted { ⌜ 0 ≡ answer (recorded (now self)) (AddFlow (flow .link) (flow .name) (flow .payload) (flow .cycle)) ⌝ }
+        ensures recorded { λ _. ⌜ recorded (now (self .exit)) ≡ effect (recorded (now (self .entry))) (AddFlow (flow .link) (flow .name) (flow .payload) (flow .cycle)) ⌝ }
         ensures sound { λ _. ⌜ Sound (now (self .exit)) ⌝ }
     {
         let at = position(self.flows(), flow.name);
@@ -67,6 +69,32 @@ impl Tables {
         self.flows[at..end].rotate_right(1);
         self.flows[at] = flow;
         self.flow_count = end;
+    }
+
+    /// Gives the flow of that name this payload and this cycle.
+    pub(crate) fn amend_flow(&mut self, name: u16, payload: u16, cycle: u16)
+        requires sound { ⌜ Sound (now self) ⌝ }
+        requires accepted { ⌜ 0 ≡ answer (recorded (now self)) (Amend name payload cycle) ⌝ }
+        ensures recorded { λ _. ⌜ recorded (now (self .exit)) ≡ effect (recorded (now (self .entry))) (Amend name payload cycle) ⌝ }
+        ensures sound { λ _. ⌜ Sound (now (self .exit)) ⌝ }
+    {
+        let at = position(self.flows(), name);
+        let flow = &mut self.flows[at];
+        flow.payload = payload;
+        flow.cycle = cycle;
+    }
+
+    /// Strikes the flow of that name.
+    pub(crate) fn remove_flow(&mut self, name: u16)
+        requires sound { ⌜ Sound (now self) ⌝ }
+        requires accepted { ⌜ 0 ≡ answer (recorded (now self)) (Withdraw name) ⌝ }
+        ensures recorded { λ _. ⌜ recorded (now (self .exit)) ≡ effect (recorded (now (self .entry))) (Withdraw name) ⌝ }
+        ensures sound { λ _. ⌜ Sound (now (self .exit)) ⌝ }
+    {
+        let at = position(self.flows(), name);
+        let end = self.flow_count;
+        self.flows[at..end].rotate_left(1);
+        self.flow_count = end - 1;
     }
 }
 
@@ -77,16 +105,24 @@ pub(crate) fn has_link(links: &[u16], name: u16) -> bool
     links.contains(&name)
 }
 
+/// The flow of that name, if there is one.
+pub(crate) fn find_flow(flows: &[Flow], name: u16) -> Option<Flow>
+    ensures found { λ r. ⌜ r ≡ flow-named name (now (flows .entry)) ⌝ }
+    ensures named { λ r. ⌜ isSome r ≡ named (now (flows .entry)) name ⌝ }
+{
+    for flow in flows {
+        if flow.name == name {
+            return Some(*flow);
+        }
+    }
+    None
+}
+
 /// Is there a flow of that name?
 pub(crate) fn has_flow(flows: &[Flow], name: u16) -> bool
     ensures { λ r. ⌜ r ≡ named (now (flows .entry)) name ⌝ }
 {
-    for flow in flows {
-        if flow.name == name {
-            return true;
-        }
-    }
-    false
+    find_flow(flows, name).is_some()
 }
 
 /// Does one of the flows belong to the link?

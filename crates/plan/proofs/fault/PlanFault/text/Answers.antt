@@ -34,6 +34,10 @@ pub returns-in-CommonCycleTooLong : need.returns-in-CommonCycleTooLong
 unfolding text
 returns-in-CommonCycleTooLong c = sym (ap text (c .in-CommonCycleTooLong .is))
 
+pub returns-in-UnknownFlow : need.returns-in-UnknownFlow
+unfolding text
+returns-in-UnknownFlow c = sym (ap text (c .in-UnknownFlow .is))
+
 pub returns-in-LinkWithoutFlow : need.returns-in-LinkWithoutFlow
 unfolding text
 returns-in-LinkWithoutFlow c = sym (ap text (c .in-LinkWithoutFlow .is))

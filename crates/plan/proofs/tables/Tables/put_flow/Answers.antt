@@ -6,13 +6,13 @@ use borrow.Rule.Slice.PartMut.{same-len-mid}
 use lib.ListN.{length, take}
 use Rattle.std.specs.shelf.Lists.{inserted}
 use Rattle.std.proofs.shelf.Lists.{length-take-le, length-set}
-use Rattle.plan.specs.Ledger.{add-flow}
+use Rattle.plan.specs.declared.call.Call.the-variants.{AddFlow}
 use Rattle.plan.specs.Position.{position-of}
 use Rattle.plan.specs.Sound.{recorded, good}
 use Rattle.plan.proofs.Inserted.{insert-at-position}
 use Rattle.plan.proofs.Keep.{keep}
 use Rattle.plan.proofs.Recorded.{room-for-flow, same-standing}
-use Rattle.plan.proofs.Rotate.{turned-in}
+use Rattle.plan.proofs.Rotate.{rotate-right-inserts}
 use Rattle.plan.proofs.tables.Tables.put_flow.Needs as need
 
 pub returns : need.returns
@@ -24,10 +24,10 @@ returns c =
     let room = room-for-flow t (flow .link) (flow .name) (flow .payload) (flow .cycle) (c .pre .sound .0) (c .pre .accepted) in
     let ln = ap length (c .flows .ensures) ∙ length-take-le n (t .flows) (omega arith) in
     let at-is : at ≡ position-of (flow .name) (take n (t .flows)) = c .position-at .ensures .position ∙ ap (position-of (flow .name)) (c .flows .ensures) in
-    let turned = turned-in (t .flows) (c .rotate-right .last .self) at n flow (omega arith) (omega arith) (c .rotate-right .ensures .after) in
+    let turned = rotate-right-inserts (t .flows) (c .rotate-right .last .self) at n flow (omega arith) (omega arith) (c .rotate-right .ensures .after) in
     let flows-are = turned ∙ ap (λ k. inserted (take n (t .flows)) k flow) at-is ∙ insert-at-position flow (take n (t .flows)) in
     let is = same-standing (take (t .«link_count») (t .links)) _ _ _ refl flows-are in
-    let kept = keep (recorded t) (add-flow (flow .link) (flow .name) (flow .payload) (flow .cycle)) (c .pre .sound .1) (c .pre .accepted) in
+    let kept = keep (recorded t) (AddFlow (flow .link) (flow .name) (flow .payload) (flow .cycle)) (c .pre .sound .1) (c .pre .accepted) in
     let long = length-set _ at flow ∙ same-len-mid at (n + 1 - at) (t .flows) (c .rotate-right .last .self) (c .rotate-right .ensures .len) in
     record {
       recorded = is;
