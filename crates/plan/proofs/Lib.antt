@@ -11,6 +11,7 @@ pub mod Found
 pub mod Inserted
 pub mod Removed
 pub mod Amended
+pub mod Named
 pub mod Rotate
 pub mod Gather
 pub mod Written
@@ -18,3 +19,4 @@ pub mod Steps
 pub mod Good
 pub mod Keep
 pub mod Recorded
+pub mod Replayed

@@ -1,4 +1,4 @@
--- The ledger: which questions a call is asked of what stands, and what stands afterwards.
+-- The ledger: which questions a call is asked of what stands, what stands afterwards, and what stands after a list of calls.
 -- A call is the code's `Call` (src/call.rt) with its arguments: AddLink name, AddFlow link flow payload cycle,
 -- Amend flow payload cycle, Withdraw flow.
 use mathlib.Core.Bool.{Bool, cond, not}
@@ -6,12 +6,13 @@ use mathlib.Core.List.{List, [], _∷_, _++_}
 use Prim.Native.Nat.{ℕ}
 use lib.Dec.{eqb, ltb}
 use lib.ListN.{length}
+use Rattle.std.specs.shelf.Lists.{folded}
 use Rattle.limits.specs.Range.{within}
 use Rattle.plan.specs.declared.call.Call.{Call}
 use Rattle.plan.specs.declared.call.Call.the-variants.{AddLink, AddFlow, Amend, Withdraw}
 use Rattle.plan.specs.Bounds.{max-links, max-flows, max-payload, max-cycle}
 use Rattle.plan.specs.Edited.{flow-with, insert, without, amended}
-use Rattle.plan.specs.Standing.{Standing, stands, named, link-of-flow, short-cycle}
+use Rattle.plan.specs.Standing.{Standing, nothing, stands, named, link-of-flow, short-cycle}
 
 -- what stands once a call is accepted: a new link is the last, a new flow has its place by name, an amended one keeps its
 -- name, link and place, and a withdrawn one is gone
@@ -61,3 +62,7 @@ answer st call = first-no (questions st call)
 -- what stands after a call: a refused one changes nothing
 abbrev pub after : Standing → Call → Standing
 after st call = cond (eqb (answer st call) 0) (effect st call) st
+
+-- what stands after a list of calls, one after the other from nothing
+abbrev pub ledger : List Call → Standing
+ledger calls = folded after nothing calls

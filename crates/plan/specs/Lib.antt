@@ -10,6 +10,8 @@ pub mod Ledger
 pub mod Fault
 pub mod Gathered
 pub mod Sound
+pub mod Accepted
+pub mod Laws
 pub mod Queries
 pub mod Position
 pub mod Held

@@ -14,6 +14,7 @@ mod link_flows;
 mod message;
 mod queries;
 mod questions;
+mod replay;
 mod tables;
 
 pub use call::Call;
