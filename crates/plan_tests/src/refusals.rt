@@ -12,6 +12,7 @@ fn numbers_of_the_refusals() -> Result<(), Fail> {
         (PlanFault::PayloadOutOfRange, 9),
         (PlanFault::CycleOutOfRange, 10),
         (PlanFault::CommonCycleTooLong, 11),
+        (PlanFault::UnknownFlow, 12),
         (PlanFault::LinkWithoutFlow, 13),
     ];
     for (fault, number) in faults {
