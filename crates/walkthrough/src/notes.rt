@@ -1,7 +1,33 @@
+use plan::Call;
 use plan::Plan;
 use plan::PlanFault;
 use plan::fault::PlanFaultDisplay;
 use std::io;
+
+/// Says what is called.
+pub(crate) fn print_call(rt: &impl Print, call: Call) -> io::Result<()> {
+    match call {
+        Call::AddLink { name } => println!(rt, "   Add link {name}."),
+        Call::AddFlow {
+            link,
+            flow,
+            payload,
+            cycle,
+        } => println!(
+            rt,
+            "   Add flow {flow} to link {link}: {payload} bytes every {cycle} ms."
+        ),
+        Call::Amend {
+            flow,
+            payload,
+            cycle,
+        } => println!(
+            rt,
+            "   Amend flow {flow}: {payload} bytes every {cycle} ms."
+        ),
+        Call::Withdraw { flow } => println!(rt, "   Withdraw flow {flow}."),
+    }
+}
 
 /// Says what a call told.
 pub(crate) fn print_answer(rt: &impl Print, told: Result<(), PlanFault>) -> io::Result<()> {
