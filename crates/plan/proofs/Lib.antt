@@ -19,4 +19,6 @@ pub mod Steps
 pub mod Good
 pub mod Keep
 pub mod Recorded
+pub mod Runs
+pub mod Latest
 pub mod Replayed

@@ -50,14 +50,16 @@ flow-named-without n m (f ∷ fs) =
     ∙ cond-swap (eqb m n) (is-named n f) None (Some f) (flow-named n fs) (λ t. ne-eqb (f .name) n (λ q. ne (q ∙ sym (eqb-true m n t)))))
     (cases-eq (f .name) m)
 
-amended-name : (m p c : ℕ) (f : Flow) → amended-flow m p c f .name ≡ f .name
-amended-name m p c f = cond-both (is-named m f) (flow-with (f .link) (f .name) p c) f (λ x. x .name ≡ f .name) (λ _. refl) (λ _. refl)
+-- an amended flow keeps its name and its link
+pub amended-keeps : (m p c : ℕ) (f : Flow) → (amended-flow m p c f .name ≡ f .name) × (amended-flow m p c f .link ≡ f .link)
+amended-keeps m p c f =
+    cond-both (is-named m f) (flow-with (f .link) (f .name) p c) f (λ x. (x .name ≡ f .name) × (x .link ≡ f .link)) (λ _. (refl, refl)) (λ _. (refl, refl))
 
 pub flow-named-amended : (n m p c : ℕ) (fs : List Flow) → flow-named n (amended m p c fs) ≡ mapped (amended-flow m p c) (flow-named n fs)
 flow-named-amended n m p c [] = refl
 flow-named-amended n m p c (f ∷ fs) =
     let new = amended-flow m p c f in
-    (λ i. cond (eqb (amended-name m p c f i) n) (Some new) (flow-named-amended n m p c fs i))
+    (λ i. cond (eqb (amended-keeps m p c f .0 i) n) (Some new) (flow-named-amended n m p c fs i))
     ∙ sym (mapped-cond (amended-flow m p c) (is-named n f) (Some f) (flow-named n fs))
 
 -- the flow of a name has it, and where there is none no flow has it

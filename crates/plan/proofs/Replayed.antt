@@ -1,47 +1,39 @@
 -- What stands after a list of calls, told from the accepted ones.
 use mathlib.Core.Path.{_≡_, refl, sym, ap, subst, _∙_}
 use mathlib.Core.Bool.{Bool, true, false, cond}
-use mathlib.Core.List.{List, [], _∷_, _++_}
+use mathlib.Core.List.{List, _++_}
 use mathlib.Core.Logic.{⊎-elim}
 use Prim.Native.Nat.{ℕ}
 use lib.Dec.{eqb}
-use Rattle.std.specs.Options.{isSome, mapped, flattened, valueOr, orOther, Cases}
+use Rattle.std.specs.Options.{isSome, mapped, Cases}
 use Rattle.std.specs.declared.option.Option.{Option}
 use Rattle.std.specs.declared.option.Option.the-variants.{Some, None}
 use Rattle.std.specs.shelf.Lists.{folded}
 use Rattle.std.proofs.shelf.Elements.{all-weaker}
 use Rattle.std.proofs.shelf.Lists.{append-nil, append-assoc}
-use Rattle.std.proofs.shelf.Tests.{eqb-true, eq-eqb, ne-eqb, cases-eq, both-ways, cond-true, cond-false, cond-both, and-parts, false≢true}
+use Rattle.std.proofs.shelf.Tests.{eq-eqb, ne-eqb, cases-eq, both-ways, cond-true, cond-false, and-parts, false≢true}
 use Rattle.plan.specs.declared.call.Call.{Call}
 use Rattle.plan.specs.declared.call.Call.the-variants.{AddLink, AddFlow, Amend, Withdraw}
 use Rattle.plan.specs.declared.flow.Flow.{Flow}
 use Rattle.plan.specs.Edited.{flow-with, amended-flow}
-use Rattle.plan.specs.Accepted.{accepted-from, accepted, link-added, links-added, adds, concerns, link-given, figures-given, last-that, last-given}
+use Rattle.plan.specs.Accepted.{accepted, link-added, links-added, adds, concerns, link-given, figures-given}
 use Rattle.plan.specs.Laws.{Refusal-changes-nothing, Single-names, Links-stand, figures, In-order-of-adding, Figures-last-given, Link-last-given}
-use Rattle.plan.specs.Ledger.{answer, effect, after, ledger}
+use Rattle.plan.specs.Ledger.{answer, effect, ledger}
 use Rattle.plan.specs.Sound.{good}
 use Rattle.plan.specs.Standing.{Standing, nothing, stands, is-named, named, flow-named}
 use Rattle.plan.proofs.Every.{single-from-up}
 use Rattle.plan.proofs.Good.{facts-from-good}
 use Rattle.plan.proofs.Keep.{keep}
-use Rattle.plan.proofs.Named.{mapped-cond, flow-named-insert, flow-named-without, flow-named-amended, flow-named-is}
+use Rattle.plan.proofs.Latest.{latest, last-from-latest}
+use Rattle.plan.proofs.Named.{mapped-cond, flow-named-insert, flow-named-without, flow-named-amended, flow-named-is, amended-keeps}
+use Rattle.plan.proofs.Runs.{by-accepted}
 use Rattle.plan.proofs.Steps.{all-yes}
-
--- what holds of a standing, the accepted calls and the standing that they lead to
-module _ (P : Standing → List Call → Standing → Type 0) (none : (st : Standing) → P st [] st) (more : (st end : Standing) (call : Call) (calls : List Call) → 0 ≡ answer st call → P (effect st call) calls end → P st (call ∷ calls) end) where
-  step : (st : Standing) (call : Call) (calls : List Call) → ((s : Standing) → P s (accepted-from s calls) (folded after s calls)) → (b : Bool) → eqb (answer st call) 0 ≡ b → P st (cond b (call ∷ []) [] ++ accepted-from (cond b (effect st call) st) calls) (folded after (cond b (effect st call) st) calls)
-  step st call calls rest true e = more st _ call _ (sym (eqb-true _ _ e)) (rest (effect st call))
-  step st call calls rest false e = rest st
-
-  by-accepted : (st : Standing) (calls : List Call) → P st (accepted-from st calls) (folded after st calls)
-  by-accepted st [] = none st
-  by-accepted st (call ∷ calls) = step st call calls (λ s. by-accepted s calls) (eqb (answer st call) 0) refl
 
 pub refusal-changes-nothing : Refusal-changes-nothing
 refusal-changes-nothing st call ne = cond-false _ _ _ (ne-eqb _ _ ne)
 
 -- ---- names
-pub always-good : (calls : List Call) → good (ledger calls) ≡ true
+always-good : (calls : List Call) → good (ledger calls) ≡ true
 always-good calls = by-accepted (λ st _ end. good st ≡ true → good end ≡ true) (λ st h. h) (λ st end call acc e rest h. rest (keep st call h e)) nothing calls refl
 
 pub single-names : (calls : List Call) → Single-names calls
@@ -66,27 +58,6 @@ in-order calls =
     nothing calls
 
 -- ---- flows
-or-none : {X : Type 0} (o : Option (Option X)) → valueOr o None ≡ flattened o
-or-none None = refl
-or-none (Some o) = refl
-
--- what the last call that passes the test gives, or what there was before
-module _ {X : Type 0} (given : Call → Option X) (test : Call → Bool) where
-  abbrev latest : Option X → Call → Option X
-  latest o call = cond (test call) (given call) o
-
-  latest-more : (o : Option X) (b : Bool) (call : Call) (later : Option Call) → valueOr (mapped given later) (cond b (given call) o) ≡ valueOr (mapped given (orOther later (cond b (Some call) None))) o
-  latest-more o b call (Some l) = refl
-  latest-more o true call None = refl
-  latest-more o false call None = refl
-
-  latest-all : (calls : List Call) (o : Option X) → folded latest o calls ≡ valueOr (mapped given (last-that test calls)) o
-  latest-all [] o = refl
-  latest-all (call ∷ calls) o = latest-all calls (latest o call) ∙ latest-more o (test call) call (last-that test calls)
-
-  last-from-latest : (calls : List Call) → folded latest None calls ≡ last-given given test calls
-  last-from-latest calls = latest-all calls None ∙ or-none (mapped given (last-that test calls))
-
 -- the figures of the flow of that name
 abbrev figures-in : ℕ → Standing → Option (ℕ × ℕ)
 figures-in n st = mapped figures (flow-named n (st .flows))
@@ -132,8 +103,7 @@ link-of-added false f g now o h e = h e
 link-kept : (m p c : ℕ) (f : Flow) (now : Option Flow) (o : Option ℕ) → ((g : Flow) → now ≡ Some g → o ≡ Some (g .link)) → mapped (amended-flow m p c) now ≡ Some f → o ≡ Some (f .link)
 link-kept m p c f None o h e = absurd (none-is-not-some f e)
 link-kept m p c f (Some g) o h e =
-    let same = cond-both (is-named m g) (flow-with (g .link) (g .name) p c) g (λ x. g .link ≡ x .link) (λ _. refl) (λ _. refl) in
-    h g refl ∙ ap (λ k. Some k) same ∙ ap (mapped (λ x. x .link)) e
+    h g refl ∙ ap (λ k. Some k) (sym (amended-keeps m p c g .1)) ∙ ap (mapped (λ x. x .link)) e
 
 kept-if-not-struck : (b : Bool) (f : Flow) (now : Option Flow) → cond b None now ≡ Some f → now ≡ Some f
 kept-if-not-struck true f now e = absurd (none-is-not-some f e)

@@ -11,6 +11,7 @@ pub mod fault;
 pub mod flow;
 mod link_cycle;
 mod link_flows;
+mod lookup;
 mod message;
 mod queries;
 mod questions;

@@ -15,8 +15,8 @@ use crate::candidate::write_candidates;
 use crate::fault::PlanFault;
 use crate::flow::Flow;
 use crate::link_flows::LinkFlows;
-use crate::tables::has_flow_of;
-use crate::tables::has_link;
+use crate::lookup::has_flow_of;
+use crate::lookup::has_link;
 use limits::GAP_COUNT;
 use limits::Pair;
 

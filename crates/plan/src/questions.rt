@@ -14,9 +14,9 @@ use crate::bounds::MAX_LINKS;
 use crate::bounds::MAX_PAYLOAD;
 use crate::fault::PlanFault;
 use crate::flow::Flow;
-use crate::tables::find_flow;
-use crate::tables::has_flow;
-use crate::tables::has_link;
+use crate::lookup::find_flow;
+use crate::lookup::has_flow;
+use crate::lookup::has_link;
 
 impl Plan {
     /// Asks the questions of `add_link`.

@@ -6,7 +6,7 @@ use Rattle.std.proofs.shelf.Tests.{eq-eqb, ne-eqb, cond-true, cond-false}
 use Rattle.plan.specs.Standing.{flow-named}
 use Rattle.plan.proofs.Empty.{nil}
 use Rattle.plan.proofs.Found.{isSome-flow-named}
-use Rattle.plan.proofs.tables.find_flow.Needs as need
+use Rattle.plan.proofs.lookup.find_flow.Needs as need
 
 pub returns-then-flow-name : need.returns-then-flow-name
 returns-then-flow-name c =

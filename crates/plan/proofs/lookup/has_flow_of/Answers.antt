@@ -2,7 +2,7 @@ use native.Mathlib.Omega.{arith}
 use Rattle.std.proofs.shelf.Tests.{eq-eqb, ne-eqb}
 use Rattle.plan.specs.Standing.{is-of}
 use Rattle.plan.proofs.Any.{found, not-here, found-none}
-use Rattle.plan.proofs.tables.has_flow_of.Needs as need
+use Rattle.plan.proofs.lookup.has_flow_of.Needs as need
 
 pub returns-then-flow-link : need.returns-then-flow-link
 returns-then-flow-link c = found (is-of (c .args .link)) (c .args .flows .now) _ (c .loop-flow .inv) (omega arith) (eq-eqb _ _ (c .if-flow-link .taken))

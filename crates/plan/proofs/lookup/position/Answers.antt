@@ -5,7 +5,7 @@ use Rattle.std.proofs.shelf.Lists.{at-drop-more, at-drop-all}
 use Rattle.std.proofs.shelf.Tests.{cond-true, cond-false, lt-ltb, le-ltb}
 use Rattle.plan.specs.Position.{position-of}
 use Rattle.plan.proofs.Empty.{nil}
-use Rattle.plan.proofs.tables.position.Needs as need
+use Rattle.plan.proofs.lookup.position.Needs as need
 
 pub returns-then-flow-name : need.returns-then-flow-name
 returns-then-flow-name c =
