@@ -1,13 +1,15 @@
 -- What the standing of every plan keeps, as facts, and what they tell of the flows of a link.
-use mathlib.Core.Path.{_≡_, sym, ap, subst}
-use mathlib.Core.Bool.{true}
+use mathlib.Core.Path.{_≡_, refl, sym, ap, subst, _∙_}
+use mathlib.Core.Bool.{true, false}
+use mathlib.Core.List.{List, [], _∷_}
+use mathlib.Core.Logic.{⊎-elim}
 use Prim.Native.Nat.{ℕ, _≤_}
 use native.Mathlib.Omega.{arith}
 use lib.ListN.{length, getD}
 use Rattle.std.specs.shelf.Lists.{All}
 use Rattle.std.proofs.shelf.Elements.{all-weaker, all-kept-by, all-getD}
 use Rattle.std.proofs.shelf.Sums.{length-kept-by, countBy-le-length}
-use Rattle.std.proofs.shelf.Tests.{leb-true, le-leb, and-parts, and-from}
+use Rattle.std.proofs.shelf.Tests.{ne-eqb, leb-true, le-leb, and-parts, and-from, both-ways, cases-bool, cond-false}
 use Rattle.limits.specs.Range.{within}
 use Rattle.limits.proofs.Within.{le-from-within}
 use Rattle.plan.specs.declared.flow.Flow.{Flow}
@@ -16,7 +18,7 @@ use Rattle.plan.specs.Cycle.{common}
 use Rattle.plan.specs.Position.{position-of}
 use Rattle.plan.specs.Regular.{In-range, All-in-range, Regular}
 use Rattle.plan.specs.Sound.{single, proper, good}
-use Rattle.plan.specs.Standing.{Standing, stands, named, link-if, link-of-flow, is-of, flows-of, short-cycle}
+use Rattle.plan.specs.Standing.{Standing, stands, named, link-if, link-of-flow, is-of, of-link, flows-of, short-cycle}
 use Rattle.plan.proofs.Empty.{nil}
 use Rattle.plan.proofs.Every.{all-from-every, every-from-all, all-at, Up, up-from-rising, rising-from-up}
 use Rattle.plan.proofs.Found.{found, found-within, found-flow}
@@ -71,13 +73,29 @@ link-stands st n g h =
     let each = all-getD (λ x. proper st x ≡ true) (st .flows) _ nil (found-within at) (g .each) in
     subst (λ k. stands st k ≡ true) (sym own) (and-parts (stands st (f .link)) _ each .0)
 
-pub regular : (st : Standing) (k : ℕ) → good st ≡ true → stands st k ≡ true → Regular (flows-of st k)
-regular st k h e =
+-- no flow is of a link that does not stand
+of-no-link : (k : ℕ) (fs : List Flow) → All (λ f. is-of k f ≡ false) fs → of-link k fs ≡ []
+of-no-link k [] h = refl
+of-no-link k (f ∷ fs) h = cond-false _ _ _ (h .0) ∙ of-no-link k fs (h .1)
+
+pub no-flows : (st : Standing) (n : ℕ) → Good st → stands st n ≡ false → flows-of st n ≡ []
+no-flows st n g new =
+    of-no-link n (st .flows) (all-weaker _ (λ f. is-of n f ≡ false) (λ f e. ne-eqb _ _ (λ q.
+    both-ways (stands st n) new (subst (λ x. stands st x ≡ true) q (and-parts _ _ e .0)))) (st .flows) (g .each))
+
+-- the common cycle of every link is short, and so is that of one that does not stand
+short-of : (st : Standing) (k : ℕ) → Good st → common (flows-of st k) ≤ max-common-cycle
+short-of st k g =
+    ⊎-elim (all-at (λ x. common (flows-of st x) ≤ max-common-cycle) (st .links) k (g .short))
+    (λ new. rw (no-flows st k g new) (omega arith)) (cases-bool (stands st k))
+
+pub regular : (st : Standing) (k : ℕ) → good st ≡ true → Regular (flows-of st k)
+regular st k h =
     let g = facts-from-good st h in
     let fewer = countBy-le-length (is-of k) (st .flows) in
     let same = length-kept-by (is-of k) (st .flows) in
     record {
       range = all-kept-by (is-of k) In-range (st .flows) (all-in-range st g);
       few = omega (arith, g .few-flows);
-      short = all-at (λ x. common (flows-of st x) ≤ max-common-cycle) (st .links) k (g .short) e;
+      short = short-of st k g;
     }

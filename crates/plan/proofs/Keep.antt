@@ -1,16 +1,14 @@
 -- An accepted call keeps what the standing of every plan keeps.
-use mathlib.Core.Path.{_≡_, refl, sym, subst, _∙_}
+use mathlib.Core.Path.{_≡_, sym, subst}
 use mathlib.Core.Bool.{true, false}
-use mathlib.Core.List.{List, [], _∷_}
 use mathlib.Core.Logic.{⊎-elim}
 use Prim.Native.Nat.{ℕ, _≤_, _<_}
 use native.Mathlib.Nat.{le-trans}
 use native.Mathlib.Omega.{arith}
 use lib.ListN.{length}
-use Rattle.std.specs.shelf.Lists.{All}
 use Rattle.std.proofs.shelf.Elements.{all-weaker, all-push, all-kept-by}
 use Rattle.std.proofs.shelf.Lists.{length-push}
-use Rattle.std.proofs.shelf.Tests.{ne-eqb, leb-true, ltb-true, and-parts, and-from, not-true, cases-eq, both-ways, cond-false}
+use Rattle.std.proofs.shelf.Tests.{ne-eqb, leb-true, ltb-true, and-parts, and-from, not-true, cases-eq}
 use Rattle.limits.specs.Range.{within}
 use Rattle.plan.specs.declared.flow.Flow.{Flow}
 use Rattle.plan.specs.Bounds.{max-links, max-flows, max-payload, max-cycle, max-common-cycle}
@@ -20,26 +18,16 @@ use Rattle.plan.specs.declared.call.Call.the-variants.{AddLink, AddFlow, Amend
 use Rattle.plan.specs.Edited.{flow-with, insert, other-name, without, amended}
 use Rattle.plan.specs.Ledger.{answer, effect}
 use Rattle.plan.specs.Sound.{proper, good}
-use Rattle.plan.specs.Standing.{Standing, stands, named, link-of-flow, is-of, of-link, flows-of}
+use Rattle.plan.specs.Standing.{Standing, stands, named, link-of-flow, of-link, flows-of}
 use Rattle.plan.proofs.Amended.{amended-anew}
 use Rattle.plan.proofs.Every.{among-more, single-push}
 use Rattle.plan.proofs.Found.{found}
-use Rattle.plan.proofs.Good.{Good, facts-from-good, good-from-facts, all-in-range, link-stands}
+use Rattle.plan.proofs.Good.{Good, facts-from-good, good-from-facts, all-in-range, link-stands, no-flows}
 use Rattle.plan.proofs.Inserted.{length-insert, all-insert, up-insert, of-other-link}
 use Rattle.plan.proofs.Removed.{length-without, length-without-found, not-named-without, up-without, common-without}
 use Rattle.plan.proofs.Steps.{all-yes}
 
--- no flow is of a link that does not stand
-of-no-link : (k : ℕ) (fs : List Flow) → All (λ f. is-of k f ≡ false) fs → of-link k fs ≡ []
-of-no-link k [] h = refl
-of-no-link k (f ∷ fs) h = cond-false _ _ _ (h .0) ∙ of-no-link k fs (h .1)
-
 module _ (st : Standing) (g : Good st) where
-  none-yet : (n : ℕ) → stands st n ≡ false → flows-of st n ≡ []
-  none-yet n new =
-      of-no-link n (st .flows) (all-weaker _ (λ f. is-of n f ≡ false) (λ f e. ne-eqb _ _ (λ q.
-      both-ways (stands st n) new (subst (λ x. stands st x ≡ true) q (and-parts _ _ e .0)))) (st .flows) (g .each))
-
   keep-link : (n : ℕ) → length (st .links) < max-links → stands st n ≡ false → Good (effect st (AddLink n))
   keep-link n room new = record {
     few-links = subst (λ k. k ≤ max-links) (sym (length-push (st .links) n)) (omega arith);
@@ -49,7 +37,7 @@ module _ (st : Standing) (g : Good st) where
     each = all-weaker _ (λ f. proper (effect st (AddLink n)) f ≡ true) (λ f e.
         let a = and-parts (stands st (f .link)) _ e in
         and-from _ _ (among-more (st .links) (f .link) n (a .0)) (a .1)) (st .flows) (g .each);
-    short = all-push (λ k. common (flows-of st k) ≤ max-common-cycle) (st .links) n (g .short) (rw (none-yet n new) (omega arith));
+    short = all-push (λ k. common (flows-of st k) ≤ max-common-cycle) (st .links) n (g .short) (rw (no-flows st n g new) (omega arith));
   }
 
   keep-flow : (f : Flow) → length (st .flows) < max-flows → proper st f ≡ true → named (st .flows) (f .name) ≡ false → common (of-link (f .link) (insert f (st .flows))) ≤ max-common-cycle → Good (effect st (AddFlow (f .link) (f .name) (f .payload) (f .cycle)))

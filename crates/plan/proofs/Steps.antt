@@ -11,7 +11,7 @@ use Rattle.plan.specs.Ledger.{Questions, first-no, questions, answer}
 use Rattle.plan.specs.Standing.{Standing}
 
 -- a question before the end was answered yes
-pub asked : (n : ℕ) (b : Bool) (rest : ℕ) → 0 < n → 0 ≡ cond b rest n → (b ≡ true) × (0 ≡ rest)
+asked : (n : ℕ) (b : Bool) (rest : ℕ) → 0 < n → 0 ≡ cond b rest n → (b ≡ true) × (0 ≡ rest)
 asked n true rest pos h = (refl, h)
 asked n false rest pos h = absurd (omega arith)
 

@@ -6,7 +6,7 @@ ghost use Rattle.plan.specs.Cycle.{Euclid, Least-common, common};
 ghost use Rattle.plan.specs.declared.call.Call.the-variants.{AddFlow, Amend};
 ghost use Rattle.plan.specs.Ledger.{effect};
 ghost use Rattle.plan.specs.Sound.{recorded, Sound};
-ghost use Rattle.plan.specs.Standing.{stands, named, link-of-flow, flows-of};
+ghost use Rattle.plan.specs.Standing.{named, link-of-flow, flows-of};
 use crate::cycle::common_cycle;
 use crate::cycle::multiple;
 use crate::flow::Flow;
@@ -14,10 +14,9 @@ use crate::link_flows::LinkFlows;
 use crate::tables::Tables;
 
 impl Tables {
-    /// The common cycle of a link that stands.
+    /// The common cycle of a link.
     pub(crate) fn cycle_of(&self, link: u16) -> u64
-        requires sound { ⌜ Sound (now self) ⌝ }
-        requires link { ⌜ stands (recorded (now self)) link ≡ true ⌝ }
+        requires { ⌜ Sound (now self) ⌝ }
         ensures value { λ r. ⌜ r ≡ common (flows-of (recorded (now (self .entry))) link) ⌝ }
         ensures range { λ r. ⌜ 0 < r ⌝ ∗ ⌜ r ≤ max-common-cycle ⌝ }
         ensures least { λ _. ⌜ Least-common ⌝ }
@@ -29,7 +28,6 @@ impl Tables {
     /// The common cycle that the flow's link would have with the flow.
     pub(crate) fn cycle_with(&self, flow: Flow) -> u64
         requires sound { ⌜ Sound (now self) ⌝ }
-        requires link { ⌜ stands (recorded (now self)) (flow .link) ≡ true ⌝ }
         requires cycle { ⌜ 0 < flow .cycle ⌝ ∗ ⌜ flow .cycle ≤ max-cycle ⌝ }
         ensures { λ r. ⌜ r ≡ common (flows-of (effect (recorded (now (self .entry))) (AddFlow (flow .link) (flow .name) (flow .payload) (flow .cycle))) (flow .link)) ⌝ }
     {

@@ -78,9 +78,8 @@ impl Plan {
         Ok(())
     }
 
-    /// Writes the candidates of a link that stands.
+    /// Writes the candidates of a link.
     fn write_pairs(&self, link: u16, place: &mut [Option<Pair>; GAP_COUNT])
-        requires { ⌜ 0 ≡ pairs-answer (standing (now self)) link ⌝ }
         ensures written { λ _. ⌜ now (place .exit) ≡ candidates eight-gaps (flows-of (standing (now (self .entry))) link) ⌝ }
         ensures least { λ _. ⌜ All-least eight-gaps (flows-of (standing (now (self .entry))) link) (now (place .exit)) ⌝ }
         ensures exact { λ _. ⌜ Exact (flows-of (standing (now (self .entry))) link) ⌝ }

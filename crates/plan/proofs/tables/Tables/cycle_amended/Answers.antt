@@ -1,24 +1,12 @@
-use mathlib.Core.Path.{_≡_, sym, ap, subst, _∙_}
-use mathlib.Core.Bool.{true}
+use mathlib.Core.Path.{_≡_, sym, ap, _∙_}
 use Rattle.plan.specs.Cycle.{common}
 use Rattle.plan.specs.Edited.{flow-with, insert}
 use Rattle.plan.specs.Sound.{recorded}
-use Rattle.plan.specs.Standing.{stands, link-of-flow, of-link}
+use Rattle.plan.specs.Standing.{link-of-flow, of-link}
 use Rattle.plan.proofs.Amended.{amended-anew}
 use Rattle.plan.proofs.Found.{found}
-use Rattle.plan.proofs.Good.{facts-from-good, link-stands}
+use Rattle.plan.proofs.Good.{facts-from-good}
 use Rattle.plan.proofs.tables.Tables.cycle_amended.Needs as need
-
-pub cycle-with-requires : need.cycle-with-requires
-cycle-with-requires c κs =
-    let st = recorded (c .args .self .now) in
-    let n = c .args .flow .name in
-    let own = subst (λ k. stands st k ≡ true) (sym (c .pre .link)) (link-stands st n (facts-from-good st (c .pre .sound .1)) (c .pre .named)) in
-    record {
-      sound = c .remove-flow .ensures .sound;
-      link = ap (λ s. stands s (c .args .flow .link)) (c .remove-flow .ensures .recorded) ∙ own;
-      cycle = c .pre .cycle;
-    }
 
 pub returns : need.returns
 returns c =

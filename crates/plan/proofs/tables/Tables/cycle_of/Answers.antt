@@ -13,12 +13,12 @@ use Rattle.plan.proofs.tables.Tables.cycle_of.Needs as need
 pub common-cycle-requires : need.common-cycle-requires
 common-cycle-requires c κs =
     let own = c .as-slice .ensures ∙ c .gather .ensures .1 ∙ ap (of-link (c .args .link)) (c .flows .ensures) in
-    subst Regular (sym own) (regular (recorded (c .args .self .now)) (c .args .link) (c .pre .sound .1) (c .pre .link))
+    subst Regular (sym own) (regular (recorded (c .args .self .now)) (c .args .link) (c .pre .1))
 
 pub returns : need.returns
 returns c =
     let own = c .as-slice .ensures ∙ c .gather .ensures .1 ∙ ap (of-link (c .args .link)) (c .flows .ensures) in
-    let r = regular (recorded (c .args .self .now)) (c .args .link) (c .pre .sound .1) (c .pre .link) in
+    let r = regular (recorded (c .args .self .now)) (c .args .link) (c .pre .1) in
     let is = c .common-cycle .ensures ∙ ap common own in
     record {
       value = is;
