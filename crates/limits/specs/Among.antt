@@ -1,16 +1,14 @@
 -- Which numbers are among a list.
-use Rattle.std.specs.Prelude.{◌≡◌, ℕ, zero, suc, ◌<◌, Bool, true, List, [], ◌∷◌, length, Decides, ◌==◌, nat_eq, slice_index, refl}
-use Rattle.std.proofs.Common.{subst, inl, inr, arith}
-use Rattle.std.specs.List.{IsAnyAnswer, AllByRecursion as All}
-use Rattle.std.proofs.lemmas.List.Elements.{contains_decides}
+use Rattle.std.specs.Prelude.{◌≡◌, ℕ, zero, suc, ◌<◌, Bool, true, ◌||◌, List, [], ◌∷◌, length, ◌==◌, nat_eq, slice_index, refl}
+use Rattle.std.proofs.Common.{◌∙◌, ap, subst, inl, inr, arith}
+use Rattle.std.specs.List.{list_any, AllByRecursion as All}
 use Rattle.std.proofs.lemmas.Bool.{eq-eqb, eqb-true, or_left, or_right, or_cases, false≢true}
-use Rattle.std.proofs.lemmas.Bool.Decides.{same_from_decides, Decides-by_or, Decides-eqb}
 use Rattle.limits.specs.Range.{among}
 
-pub among_from_contains : (xs : List ℕ) (x : ℕ) (r : Bool) → IsAnyAnswer (λ y t. Decides t (y ≡ x)) xs r → r ≡ among xs x
-among_from_contains xs x r h =
-    same_from_decides r (among xs x) (contains_decides nat_eq Decides-eqb xs x r h)
-    (Decides-by_or (λ y. nat_eq y x) (λ y. y ≡ x) (λ ys. among ys x) (λ y. Decides-eqb y x) refl (λ _ _. refl) xs)
+-- the library's test for a number of a list is ours
+pub among_from_contains : (xs : List ℕ) (x : ℕ) (r : Bool) → r ≡ list_any (λ y. nat_eq y x) xs → r ≡ among xs x
+among_from_contains [] x r h = h
+among_from_contains (y ∷ ys) x r h = h ∙ ap (λ b. nat_eq y x || b) (among_from_contains ys x _ refl)
 
 pub among-get_or : (xs : List ℕ) (k : ℕ) → k < length xs → among xs (slice_index xs k) ≡ true
 among-get_or [] k h = absurd (omega arith)

@@ -1,4 +1,6 @@
 //! Gap and MTU pairs, what a port admits of them, and what they cost.
+#![tactic(auto)]
+
 mod breach;
 pub mod burst;
 pub mod burst_total;

@@ -11,7 +11,7 @@ pub const MAX_PAIRS: usize = 64;
 
 /// The breach of the pairs under the limit, or none where they are no selection.
 pub fn breach_of_pairs<L: Limit>(limit: &L, pairs: &[Pair]) -> Option<u32>
-    ensures { Judged (breach limit.now) pairs.now result }
+    ensures { Judged (L.breach limit.now) pairs.now result }
 {
     if !is_selection(pairs) {
         return None;
@@ -21,7 +21,7 @@ pub fn breach_of_pairs<L: Limit>(limit: &L, pairs: &[Pair]) -> Option<u32>
 
 /// The total of the pairs by the measure, or none where they are no selection.
 pub fn total_of_pairs<M: Measure>(measure: &M, pairs: &[Pair]) -> Option<M::Total>
-    ensures { Judged (totalled measure.now) pairs.now result }
+    ensures { Judged (M.totalled measure.now) pairs.now result }
 {
     if !is_selection(pairs) {
         return None;
@@ -47,7 +47,7 @@ fn is_selection(pairs: &[Pair]) -> bool
 /// The load of a selection.
 fn load_of<L: Limit>(limit: &L, pairs: &[Pair]) -> L::Load
     requires { Selection pairs.now }
-    ensures { result ≡ loaded limit.now pairs.now }
+    ensures { result ≡ L.loaded limit.now pairs.now }
 {
     let mut load = limit.empty_load();
     for pair in pairs {
@@ -59,7 +59,7 @@ fn load_of<L: Limit>(limit: &L, pairs: &[Pair]) -> L::Load
 /// The total of a selection.
 fn total_of<M: Measure>(measure: &M, pairs: &[Pair]) -> M::Total
     requires { Selection pairs.now }
-    ensures { result ≡ totalled measure.now pairs.now }
+    ensures { result ≡ M.totalled measure.now pairs.now }
 {
     let mut total = measure.empty_total();
     for pair in pairs {

@@ -1,4 +1,6 @@
 //! Limits, measures and ports at their edges.
+#![tactic(auto)]
+
 #[cfg(test)]
 mod floor;
 #[cfg(test)]

@@ -1,4 +1,6 @@
 //! The plan of one output port: its links, their flows, and the pairs that serve a link.
+#![tactic(auto)]
+
 ghost use Rattle.plan.specs.Sound.{Sound};
 
 use tables::Tables;

@@ -1,4 +1,6 @@
 //! Worked examples of a plan, and each of its questions at the edge.
+#![tactic(auto)]
+
 #[cfg(test)]
 mod amending;
 #[cfg(test)]

@@ -1,4 +1,6 @@
 //! Settings of a port: which pair each link is given.
+#![tactic(auto)]
+
 mod check;
 mod port_check;
 pub mod row;

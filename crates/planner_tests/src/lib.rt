@@ -1,4 +1,6 @@
 //! Settings made elsewhere: each question at its edge, and worked ports.
+#![tactic(auto)]
+
 #[cfg(test)]
 mod plans;
 #[cfg(test)]

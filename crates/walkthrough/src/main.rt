@@ -1,4 +1,6 @@
 //! One integrator's task from beginning to end, with a note for each step.
+#![tactic(auto)]
+
 mod notes;
 mod offer;
 mod order_book;

@@ -6,8 +6,8 @@ use Rattle.limits.proofs.sums.units_with.Goals as goal
 pub units-requires : goal.units-requires
 units-requires c = last_lawful c.requires.0 c.args.pair c.requires.2
 
-pub overflow-add-result : goal.overflow-add-result
-overflow-add-result c =
+pub overflow_add-result : goal.overflow_add-result
+overflow_add-result c =
     let s = c.requires.0 in
     let few : c.args.units + c.units.result < 4294967296 =
     omega (arith, c.requires.1, c.units.ensures, reserve_adds.push s c.args.pair, reserve_adds.bound (s ++ c.args.pair ∷ []) c.requires.2) in

@@ -7,5 +7,5 @@ use Rattle.limits.proofs.pair.Pair.is_lawful.Goals as goal
 
 pub returns : goal.returns
 returns c =
-    among_from_contains eight_gaps c.args.self.gap c.contains.result c.contains.ensures.cases
+    among_from_contains eight_gaps c.args.self.gap c.contains.result c.contains.ensures.value
     ∙ and-true _ _ (within_from_le mtu_min mtu_max c.args.self.mtu (omega arith) (omega arith))

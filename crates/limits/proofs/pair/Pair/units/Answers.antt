@@ -3,8 +3,8 @@ use Rattle.limits.specs.Frame.{units}
 use Rattle.limits.specs.FrameLaws.{frame_most, gap_positive}
 use Rattle.limits.proofs.pair.Pair.units.Goals as goal
 
-pub overflow-mul-result : goal.overflow-mul-result
-overflow-mul-result c =
+pub overflow_mul-result : goal.overflow_mul-result
+overflow_mul-result c =
     let few : c.frame_bytes.result * 128 < 4294967296 = omega (arith, c.frame_bytes.ensures, frame_most c.args.self c.requires) in
     search rules
 
