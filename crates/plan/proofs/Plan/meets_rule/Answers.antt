@@ -14,18 +14,18 @@ use Rattle.plan.proofs.Plan.meets_rule.Goals as goal
 regular_of : (plan : Plan) (link : ℕ) (own : List Flow) → own ≡ flows_of (standing plan) link → Regular own
 regular_of plan link own is = subst Regular (sym is) (regular (standing plan) link plan.sound.1)
 
-pub common-cycle-requires : goal.common-cycle-requires
-common-cycle-requires c =
-    regular_of c.args.self.now c.args.link _ (c.as-slice-flows.ensures ∙ c.gather-own.ensures.1 ∙ ap (of_link c.args.link) c.flows.ensures.shown)
+pub common_cycle-requires : goal.common_cycle-requires
+common_cycle-requires c =
+    regular_of c.args.self.now c.args.link _ (c.as_slice-flows.ensures ∙ c.gather-own.ensures.1 ∙ ap (of_link c.args.link) c.flows.ensures.shown)
 
-pub meets-rule-requires : goal.meets-rule-requires
-meets-rule-requires c = record {
-  flows = regular_of c.args.self.now c.args.link _ (c.as-slice-flows.ensures ∙ c.gather-own.ensures.1 ∙ ap (of_link c.args.link) c.flows.ensures.shown);
-  period = c.common-cycle.ensures;
+pub meets_rule-requires : goal.meets_rule-requires
+meets_rule-requires c = record {
+  flows = regular_of c.args.self.now c.args.link _ (c.as_slice-flows.ensures ∙ c.gather-own.ensures.1 ∙ ap (of_link c.args.link) c.flows.ensures.shown);
+  period = c.common_cycle.ensures;
   mtu = (le_from_within mtu_min mtu_max c.args.pair.mtu (and_parts _ _ c.requires).1).0;
 }
 
 pub returns : goal.returns
 returns c =
-    let own = c.as-slice-flows.ensures ∙ c.gather-own.ensures.1 ∙ ap (of_link c.args.link) c.flows.ensures.shown in
-    c.meets-rule.ensures ∙ ap (λ fs. meets fs c.args.pair.gap c.args.pair.mtu) own
+    let own = c.as_slice-flows.ensures ∙ c.gather-own.ensures.1 ∙ ap (of_link c.args.link) c.flows.ensures.shown in
+    c.meets_rule.ensures ∙ ap (λ fs. meets fs c.args.pair.gap c.args.pair.mtu) own

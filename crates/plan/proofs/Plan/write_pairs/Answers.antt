@@ -11,17 +11,17 @@ use Rattle.plan.proofs.Good.{regular}
 use Rattle.plan.proofs.Least.{candidates_least}
 use Rattle.plan.proofs.Plan.write_pairs.Goals as goal
 
-pub write-candidates-requires : goal.write-candidates-requires
-write-candidates-requires c =
-    let own = c.as-slice.ensures ∙ c.gather.ensures.1 ∙ ap (of_link c.args.link) c.flows.ensures.shown in
+pub write_candidates-requires : goal.write_candidates-requires
+write_candidates-requires c =
+    let own = c.as_slice.ensures ∙ c.gather.ensures.1 ∙ ap (of_link c.args.link) c.flows.ensures.shown in
     subst Regular (sym own) (regular (standing c.args.self.now) c.args.link c.args.self.now.sound.1)
 
 pub returns : goal.returns
 returns c =
     let st = standing c.args.self.now in
     let fs = flows_of st c.args.link in
-    let own = c.as-slice.ensures ∙ c.gather.ensures.1 ∙ ap (of_link c.args.link) c.flows.ensures.shown in
-    let wrote = c.write-candidates.ensures ∙ ap (candidates eight_gaps) own in
+    let own = c.as_slice.ensures ∙ c.gather.ensures.1 ∙ ap (of_link c.args.link) c.flows.ensures.shown in
+    let wrote = c.write_candidates.ensures ∙ ap (candidates eight_gaps) own in
     record {
       written = wrote;
       least = subst (AllLeast eight_gaps fs) (sym wrote) (candidates_least eight_gaps fs);

@@ -20,16 +20,16 @@ fails_below fs r g m f k l h =
 pub loop-low-preserved : goal.loop-low-preserved
 loop-low-preserved c =
     let mid = (c.loop-low.low + c.loop-low.high) / 2 in
-    let below = fails_below c.args.flows.now c.requires.flows.range c.args.gap mid (sym c.if-meets-rule.ensures) in
+    let below = fails_below c.args.flows.now c.requires.flows.range c.args.gap mid (sym c.if-meets_rule.ensures) in
     (omega arith, omega arith, omega arith, λ k l h. below k l (omega arith), c.loop-low.invariant.4)
 
-pub returns-then-low-gt-MTU-MAX : goal.returns-then-low-gt-MTU-MAX
+pub returns-then-low-gt-MTU_MAX : goal.returns-then-low-gt-MTU_MAX
 unfolding least_mtu
-returns-then-low-gt-MTU-MAX c = sym (first_none (meets c.args.flows.now c.args.gap) mtu_min mtu_max (λ k l h. c.loop-low.invariant.3 k l (omega arith)))
+returns-then-low-gt-MTU_MAX c = sym (first_none (meets c.args.flows.now c.args.gap) mtu_min mtu_max (λ k l h. c.loop-low.invariant.3 k l (omega arith)))
 
-pub returns-else-low-gt-MTU-MAX : goal.returns-else-low-gt-MTU-MAX
+pub returns-else-low-gt-MTU_MAX : goal.returns-else-low-gt-MTU_MAX
 unfolding least_mtu
-returns-else-low-gt-MTU-MAX c =
+returns-else-low-gt-MTU_MAX c =
     let test = meets c.args.flows.now c.args.gap in
     let end : c.loop-low.high ≡ c.loop-low.low = omega arith in
     sym (first_some test mtu_min mtu_max c.loop-low.low (omega arith) (omega arith) (sym (ap test end) ∙ c.loop-low.invariant.4 (omega arith)) c.loop-low.invariant.3)

@@ -8,8 +8,8 @@ use Rattle.plan.proofs.Exact.{exact}
 use Rattle.plan.proofs.Empty.{nil}
 use Rattle.plan.proofs.message.frames_sent.Goals as goal
 
-pub frames-of-frames-requires : goal.frames-of-frames-requires
-frames-of-frames-requires c = record {
+pub frames_of-frames-requires : goal.frames_of-frames-requires
+frames_of-frames-requires c = record {
   flow = All-get_or InRange c.args.flows.now c.loop-flow.flow-index nil (omega arith) c.requires.flows.range;
   period = rw c.requires.period c.requires.flows.short;
   mtu = c.requires.mtu;

@@ -5,8 +5,8 @@ use Rattle.planner.proofs.Failing.{Passes, fails_at, fails_nowhere}
 use Rattle.planner.proofs.Names.{no_row}
 use Rattle.planner.proofs.row_rule.first_breaking.Goals as goal
 
-pub overflow-add-place : goal.overflow-add-place
-overflow-add-place g c = let few : c.loop-row.place + 1 < 4294967296 = omega (arith, c.loop-row.invariant.0, c.loop-row-test.true, c.requires) in search rules
+pub overflow_add-place : goal.overflow_add-place
+overflow_add-place g c = let few : c.loop-row.place + 1 < 4294967296 = omega (arith, c.loop-row.invariant.0, c.loop-row-test.true, c.requires) in search rules
 
 pub returns-then-not-keeps : goal.returns-then-not-keeps
 returns-then-not-keeps g c =

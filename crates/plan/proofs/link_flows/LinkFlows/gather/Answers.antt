@@ -13,13 +13,13 @@ loop-flow-preserved c =
     let i = c.loop-flow.flow-index in
     let link = c.args.link in
     elim c.if-flow-link.branch [
-      | then-flow-link w ↦ subst (Gathering link fs (i + 1)) (sym w.own_is) (gathers link i fs c.loop-flow.own_val (omega arith) c.requires c.loop-flow.invariant (eq-eqb _ _ w.if-flow-link.true))
-      | else-flow-link w ↦ subst (Gathering link fs (i + 1)) (sym w.own_is) (passes_over link i fs c.loop-flow.own_val (omega arith) c.requires c.loop-flow.invariant (ne_eqb _ _ w.if-flow-link.false))
+      | then-flow-link w ↦ subst (Gathering link fs (i + 1)) (sym w.own-is) (gathers link i fs c.loop-flow.own (omega arith) c.requires c.loop-flow.invariant (eq-eqb _ _ w.if-flow-link.true))
+      | else-flow-link w ↦ subst (Gathering link fs (i + 1)) (sym w.own-is) (passes_over link i fs c.loop-flow.own (omega arith) c.requires c.loop-flow.invariant (ne_eqb _ _ w.if-flow-link.false))
     ]
 
 pub returns : goal.returns
 returns c =
     let fs = c.args.flows.now in
-    let own = c.loop-flow.own_val in
+    let own = c.loop-flow.own in
     let none = at_drop_all (λ l. gathered own ++ of_link c.args.link l) fs c.loop-flow.flow-index (omega arith) in
     ((omega arith, c.loop-flow.invariant.1), sym (append-nil (gathered own)) ∙ sym none ∙ c.loop-flow.invariant.2)

@@ -15,4 +15,4 @@ returns c =
     let up = (facts_from_good st c.requires.sound.1).up in
     let anew = amended_anew f.payload f.cycle (found f.name st.flows up c.requires.named) up in
     let same : f ≡ flow_with (link_of_flow f.name st.flows) f.name f.payload f.cycle = λ i. flow_with (c.requires.link i) f.name f.payload f.cycle in
-    c.cycle-with.ensures ∙ (λ i. common (of_link f.link (insert (same i) (c.remove-flow.ensures.recorded i).flows))) ∙ sym (ap (λ l. common (of_link f.link l)) anew)
+    c.cycle_with.ensures ∙ (λ i. common (of_link f.link (insert (same i) (c.remove_flow.ensures.recorded i).flows))) ∙ sym (ap (λ l. common (of_link f.link l)) anew)

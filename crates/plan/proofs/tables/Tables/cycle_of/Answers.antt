@@ -9,16 +9,16 @@ use Rattle.plan.proofs.Gcd.{euclid}
 use Rattle.plan.proofs.Good.{regular}
 use Rattle.plan.proofs.tables.Tables.cycle_of.Goals as goal
 
-pub common-cycle-requires : goal.common-cycle-requires
-common-cycle-requires c =
-    let own = c.as-slice.ensures ∙ c.gather.ensures.1 ∙ ap (of_link c.args.link) c.flows.ensures in
+pub common_cycle-requires : goal.common_cycle-requires
+common_cycle-requires c =
+    let own = c.as_slice.ensures ∙ c.gather.ensures.1 ∙ ap (of_link c.args.link) c.flows.ensures in
     subst Regular (sym own) (regular (recorded c.args.self.now) c.args.link c.requires.1)
 
 pub returns : goal.returns
 returns c =
-    let own = c.as-slice.ensures ∙ c.gather.ensures.1 ∙ ap (of_link c.args.link) c.flows.ensures in
+    let own = c.as_slice.ensures ∙ c.gather.ensures.1 ∙ ap (of_link c.args.link) c.flows.ensures in
     let r = regular (recorded c.args.self.now) c.args.link c.requires.1 in
-    let is = c.common-cycle.ensures ∙ ap common own in
+    let is = c.common_cycle.ensures ∙ ap common own in
     record {
       value = is;
       range = (subst (λ x. 0 < x) (sym is) (common_pos _ r.range), subst (λ x. x ≤ max_common_cycle) (sym is) r.short);

@@ -10,5 +10,5 @@ pub returns : goal.returns
 returns c =
     let st = recorded c.args.self.now in
     let f = c.args.flow in
-    c.multiple.ensures ∙ (λ i. lcm (c.from.ensures i) (c.cycle-of.ensures.value i))
+    c.multiple.ensures ∙ (λ i. lcm (c.from.ensures i) (c.cycle_of.ensures.value i))
     ∙ sym (common-insert f.link f st.flows (eq-eqb f.link f.link refl) c.requires.cycle.0 (all_in_range st (facts_from_good st c.requires.sound.1)))
