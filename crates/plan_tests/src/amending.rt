@@ -35,11 +35,11 @@ fn replaces_payload_and_cycle(rt: HostRuntime) -> Result<(), Fail> {
             cycle: 12,
         },
     ];
-    assert!(rt; plan.flows() == &amended);
-    assert!(rt; plan.links() == &[7, 8]);
+    assert!(rt; plan.flows() == amended.as_slice());
+    assert!(rt; plan.links() == [7, 8].as_slice());
     // to the same figures
     assert_eq!(rt; plan.amend(1, 90, 20), Ok(()));
-    assert!(rt; plan.flows() == &amended);
+    assert!(rt; plan.flows() == amended.as_slice());
     Ok(())
 }
 
@@ -126,6 +126,6 @@ fn asks_of_an_amendment_in_order(rt: HostRuntime) -> Result<(), Fail> {
             cycle: 8,
         },
     ];
-    assert!(rt; plan.flows() == &unchanged);
+    assert!(rt; plan.flows() == unchanged.as_slice());
     Ok(())
 }

@@ -48,7 +48,7 @@ fn keeps_flows_in_rising_name(rt: HostRuntime) -> Result<(), Fail> {
             cycle: 1,
         },
     ];
-    assert!(rt; plan.flows() == &expected);
+    assert!(rt; plan.flows() == expected.as_slice());
     Ok(())
 }
 
@@ -135,6 +135,6 @@ fn asks_in_order(rt: HostRuntime) -> Result<(), Fail> {
         payload: 80,
         cycle: 1000,
     }];
-    assert!(rt; plan.flows() == &alone);
+    assert!(rt; plan.flows() == alone.as_slice());
     Ok(())
 }

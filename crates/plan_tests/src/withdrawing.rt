@@ -32,9 +32,9 @@ fn withdraws_flows_that_stand(rt: HostRuntime) -> Result<(), Fail> {
     assert_eq!(rt; plan.withdraw(20), Ok(()));
     assert_eq!(rt; plan.withdraw(20), Err(PlanFault::UnknownFlow));
     assert_eq!(rt; plan.amend(20, 80, 10), Err(PlanFault::UnknownFlow));
-    assert!(rt; plan.flows() == &[flow(10), flow(30)]);
+    assert!(rt; plan.flows() == [flow(10), flow(30)].as_slice());
     assert_eq!(rt; plan.add_flow(7, 20, 80, 10), Ok(()));
-    assert!(rt; plan.flows() == &[flow(10), flow(20), flow(30)]);
+    assert!(rt; plan.flows() == [flow(10), flow(20), flow(30)].as_slice());
     Ok(())
 }
 
@@ -42,14 +42,14 @@ fn withdraws_flows_that_stand(rt: HostRuntime) -> Result<(), Fail> {
 fn leaves_the_flows_before_and_after(rt: HostRuntime) -> Result<(), Fail> {
     let mut first = with_flows()?;
     assert_eq!(rt; first.withdraw(10), Ok(()));
-    assert!(rt; first.flows() == &[flow(20), flow(30)]);
+    assert!(rt; first.flows() == [flow(20), flow(30)].as_slice());
     let mut last = with_flows()?;
     assert_eq!(rt; last.withdraw(30), Ok(()));
-    assert!(rt; last.flows() == &[flow(10), flow(20)]);
+    assert!(rt; last.flows() == [flow(10), flow(20)].as_slice());
     assert_eq!(rt; last.withdraw(10), Ok(()));
     assert_eq!(rt; last.withdraw(20), Ok(()));
     assert_eq!(rt; last.flows().len(), 0);
-    assert!(rt; last.links() == &[7]);
+    assert!(rt; last.links() == [7].as_slice());
     Ok(())
 }
 
@@ -67,7 +67,7 @@ fn name_may_be_used_under_another_link(rt: HostRuntime) -> Result<(), Fail> {
         payload: 70,
         cycle: 5,
     };
-    assert!(rt; plan.flows() == &[flow(10), moved, flow(30)]);
+    assert!(rt; plan.flows() == [flow(10), moved, flow(30)].as_slice());
     Ok(())
 }
 

@@ -14,7 +14,7 @@ use plan::Plan;
 
 /// Checks a setting made elsewhere under any limit. It is accepted exactly when every question is answered yes.
 pub fn check_setting<L: Limit>(plan: &Plan, limit: &L, rows: &[Row]) -> Result<(), SettingFault>
-    ensures { told result ≡ refusal (setting_questions eight_gaps (breach limit.now) (standing plan.now) rows.now) }
+    ensures { told result ≡ refusal (setting_questions eight_gaps (L.breach limit.now) (standing plan.now) rows.now) }
 {
     if let Some(link) = plan.first_without_flow() {
         return Err(SettingFault::LinkWithoutFlow { link });
@@ -28,7 +28,7 @@ pub fn check_setting<L: Limit>(plan: &Plan, limit: &L, rows: &[Row]) -> Result<(
 /// Asks what comes after the names: the gaps, the MTUs, the messages and the limit.
 fn check_rows<L: Limit>(plan: &Plan, limit: &L, rows: &[Row]) -> Result<(), SettingFault>
     requires { name_links (standing plan.now).links rows.now ≡ true }
-    ensures { told result ≡ refusal (row_questions eight_gaps (breach limit.now) (standing plan.now) rows.now) }
+    ensures { told result ≡ refusal (row_questions eight_gaps (L.breach limit.now) (standing plan.now) rows.now) }
 {
     if let Some(row) = first_breaking(&LawfulGap, rows) {
         return Err(SettingFault::GapUnlawful { row });
@@ -64,7 +64,7 @@ fn name_links(links: &[u16], rows: &[Row]) -> bool
 /// The breach of the pairs of the rows.
 fn breach_of_rows<L: Limit>(limit: &L, rows: &[Row]) -> u32
     requires { Selection (pairs rows.now) }
-    ensures { result ≡ breach limit.now (pairs rows.now) }
+    ensures { result ≡ L.breach limit.now (pairs rows.now) }
 {
     let mut load = limit.empty_load();
     for row in rows {

@@ -60,7 +60,7 @@ impl RowRule for Served<'_> {
 /// The place, from 1, of the first row that breaks the rule.
 pub(crate) fn first_breaking<R: RowRule>(rule: &R, rows: &[Row]) -> Option<u32>
     requires { length rows.now ≤ max_links }
-    ensures { result ≡ first_failing (kept rule.now) rows.now }
+    ensures { result ≡ first_failing (R.kept rule.now) rows.now }
 {
     let mut place = 0;
     for row in rows {

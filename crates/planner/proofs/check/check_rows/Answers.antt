@@ -13,19 +13,19 @@ first_breaking-requires-3 g c = few_rows (standing c.args.plan.now) c.args.rows.
 
 pub breach_of_rows-breach-requires : goal.breach_of_rows-breach-requires
 breach_of_rows-breach-requires g c =
-    lawful_selection (standing c.args.plan.now) c.args.rows.now c.args.plan.now.sound.1 c.requires c.in-default.ensures c.in-default-first_breaking.ensures
+    lawful_selection (standing c.args.plan.now) c.args.rows.now c.args.plan.now.sound.1 c.requires c.in_default.ensures c.in_default-first_breaking.ensures
 
 pub returns-in-Some-first_breaking-2 : goal.returns-in-Some-first_breaking-2
 returns-in-Some-first_breaking-2 g c =
-    message_refused (standing c.args.plan.now) c.args.rows.now c.args.plan.now.sound.1 c.requires c.in-default.ensures c.in-default-first_breaking.ensures
+    message_refused (standing c.args.plan.now) c.args.rows.now c.args.plan.now.sound.1 c.requires c.in_default.ensures c.in_default-first_breaking.ensures
     (g.L.Limit.breach c.args.limit.now) c.in-Some-first_breaking-2.row c.in-Some-first_breaking-2.ensures
 
 pub returns-then-breach-ne0 : goal.returns-then-breach-ne0
 returns-then-breach-ne0 g c =
-    limit_refused (standing c.args.plan.now) c.args.rows.now c.args.plan.now.sound.1 c.requires c.in-default.ensures c.in-default-first_breaking.ensures
-    (g.L.Limit.breach c.args.limit.now) c.in-default-first_breaking-2.ensures c.breach_of_rows-breach.result c.breach_of_rows-breach.ensures c.if-breach-ne0.true
+    limit_refused (standing c.args.plan.now) c.args.rows.now c.args.plan.now.sound.1 c.requires c.in_default.ensures c.in_default-first_breaking.ensures
+    (g.L.Limit.breach c.args.limit.now) c.in_default-first_breaking-2.ensures c.breach_of_rows-breach.result c.breach_of_rows-breach.ensures c.if-breach-ne0.true
 
 pub returns : goal.returns
 returns g c =
-    accepted (standing c.args.plan.now) c.args.rows.now c.args.plan.now.sound.1 c.requires c.in-default.ensures c.in-default-first_breaking.ensures
-    (g.L.Limit.breach c.args.limit.now) c.in-default-first_breaking-2.ensures c.breach_of_rows-breach.result c.breach_of_rows-breach.ensures c.if-breach-ne0.false
+    accepted (standing c.args.plan.now) c.args.rows.now c.args.plan.now.sound.1 c.requires c.in_default.ensures c.in_default-first_breaking.ensures
+    (g.L.Limit.breach c.args.limit.now) c.in_default-first_breaking-2.ensures c.breach_of_rows-breach.result c.breach_of_rows-breach.ensures c.if-breach-ne0.false

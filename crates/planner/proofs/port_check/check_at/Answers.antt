@@ -14,5 +14,5 @@ returns c =
     let port = c.args.port in
     let st = standing c.args.plan.now in
     let rows = c.args.rows.now in
-    let is : told c.check-setting.result ≡ refusal (setting_questions eight_gaps (port_breach port) st rows) = c.check-setting.ensures ∙ ap (λ l. refusal (setting_questions eight_gaps (layers_breach l) st rows)) c.requires in
+    let is : told c.check_setting.result ≡ refusal (setting_questions eight_gaps (port_breach port) st rows) = c.check_setting.ensures ∙ ap (λ l. refusal (setting_questions eight_gaps (layers_breach l) st rows)) c.requires in
     record { told = is; field = subst (JudgedByField port st rows) (sym is) (judged_by_field port st rows c.args.plan.now.sound.1) }
