@@ -1,5 +1,5 @@
 -- The laws of frame bytes and units. What rests on them uses these, and not how they are computed.
-use Rattle.std.specs.Prelude.{◌≡◌, ℕ, ◌*◌, ◌/◌, ◌%◌, ◌<◌, ◌≤◌, Bool, true, ◌&&◌, ◌==◌, nat_lt, refl}
+use Rattle.std.specs.Prelude.{◌≡◌, ℕ, ◌*◌, ◌%◌, ◌<◌, ◌≤◌, Bool, true, ◌&&◌, ◌==◌, nat_lt, refl}
 use Rattle.std.proofs.Common.{le_trans, le-div_iff_mul-le, div-mul-le_self, div-le_self, mul-le-mul_right, arith}
 use Rattle.std.proofs.Math.Nat.{div-mul_cancel, dvd-mul_left, dvd_trans, dvd_of_mod-eq-zero}
 use Rattle.std.proofs.lemmas.Bool.{and_parts, ltb-true, eqb-true}

@@ -1,5 +1,5 @@
 -- The figures of a port: its rate and the share that links may reserve in kbit/s, and its floor, the least gap in ms.
-use Rattle.std.specs.Prelude.{◌≡◌, ℕ, [], ◌∷◌}
+use Rattle.std.specs.Prelude.{ℕ, [], ◌∷◌}
 use Rattle.limits.specs.Gaps.{eight_gaps}
 use Rattle.limits.specs.Questions.{Questions, first_no}
 use Rattle.limits.specs.Range.{within, among}

@@ -1,5 +1,5 @@
 -- The rules of a port in exact fractions are those in whole units and bytes.
-use Rattle.std.proofs.Common.{◌≡◌, ℕ, ◌+◌, ◌*◌, ◌<◌, ◌≤◌, Bool, true, leb, List, [], ◌∷◌, map, sym, refl, ap, ◌∙◌, mul-le-mul_right, mul_assoc, mul_comm, add-mul, mul-le-mul_left, mul-pos, one-mul, mul-one, mul-add, mul_right_comm, arith}
+use Rattle.std.proofs.Common.{◌≡◌, ℕ, ◌+◌, ◌*◌, ◌<◌, ◌≤◌, List, [], ◌∷◌, map, sym, ap, ◌∙◌, mul_assoc, mul_comm, add-mul, mul-le-mul_left, mul-pos, mul-add, mul_right_comm, arith}
 use native.Mathlib.Nat.{le_of_mul-le-mul_left}
 use Rattle.std.specs.List.{AllByRecursion as All}
 use Rattle.std.proofs.lemmas.Bool.{leb-true, le-leb}
@@ -8,7 +8,7 @@ use Rattle.limits.specs.declared.pair.Pair.{Pair}
 use Rattle.limits.specs.Frame.{frame, units}
 use Rattle.limits.specs.Rules.{within_share, within_jitter}
 use Rattle.limits.specs.Selection.{Lawful}
-use Rattle.limits.specs.Sums.{burst_bytes, reserve}
+use Rattle.limits.specs.Sums.{reserve}
 use Rattle.limits.specs.FrameLaws.{gap_positive, units_exact}
 use Rattle.limits.specs.SumLaws.{reserve_adds}
 use Rattle.plan.specs.Fraction.{total}

@@ -1,4 +1,4 @@
-use Rattle.std.proofs.Common.{◌≡◌, take}
+use Rattle.std.proofs.Common.{take}
 use Rattle.std.specs.List.{AllByRecursion as All}
 use Rattle.limits.specs.Selection.{Lawful}
 use Rattle.limits.proofs.selection.is_selection.Given as goal

@@ -1,6 +1,6 @@
-use Rattle.std.proofs.Common.{◌≡◌, ◌*◌, ◌/◌, ◌<◌, ap, arith, rules}
+use Rattle.std.proofs.Common.{◌*◌, ◌/◌, ◌<◌, arith, rules}
 use Rattle.limits.specs.Frame.{units}
-use Rattle.limits.specs.FrameLaws.{frame_most, gap_positive}
+use Rattle.limits.specs.FrameLaws.{frame_most}
 use Rattle.limits.proofs.pair.Pair.units.Goals as goal
 
 pub overflow_mul-result : goal.overflow_mul-result

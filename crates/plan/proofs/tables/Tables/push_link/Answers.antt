@@ -1,7 +1,6 @@
 use Rattle.std.proofs.Common.{take, refl, arith}
 use Rattle.std.proofs.lemmas.List.{take_more_set, length-set}
 use Rattle.plan.specs.declared.call.Call.TheVariants.{AddLink}
-use Rattle.plan.specs.Sound.{recorded}
 use Rattle.plan.proofs.Recorded.{room_for_link, same_standing, sound_after}
 use Rattle.plan.proofs.tables.Tables.push_link.Goals as goal
 

@@ -4,7 +4,6 @@ use Rattle.std.specs.List.{insert}
 use Rattle.std.proofs.lemmas.List.{length-take-le, length-set}
 use Rattle.plan.specs.declared.call.Call.TheVariants.{AddFlow}
 use Rattle.plan.specs.Position.{position_of}
-use Rattle.plan.specs.Sound.{recorded}
 use Rattle.plan.proofs.Inserted.{insert_at_position}
 use Rattle.plan.proofs.Recorded.{room_for_flow, same_standing, sound_after}
 use Rattle.plan.proofs.Rotate.{rotate_right_inserts}
