@@ -1,16 +1,16 @@
 -- A test of every element: by the elements, of two lists in a row, and of a list without its last element.
 use Rattle.std.specs.Prelude.{◌≡◌, Bool, true, false, ◌&&◌, List, [], ◌∷◌, ◌++◌, refl}
 use Rattle.std.proofs.Common.{ap, ◌∙◌}
-use Rattle.std.specs.List.{AllByRecursion as All}
+use Rattle.std.specs.List.{AllByRecursion}
 use Rattle.std.proofs.lemmas.Bool.{and_parts, and_from}
 use Rattle.limits.specs.Range.{every}
 
 module _ {X : Type 0} (test : X → Bool) where
-  pub all_from_every : (xs : List X) → every test xs ≡ true → All (λ x. test x ≡ true) xs
+  pub all_from_every : (xs : List X) → every test xs ≡ true → AllByRecursion (λ x. test x ≡ true) xs
   all_from_every [] h = tt
   all_from_every (x ∷ xs) h = let a = and_parts _ _ h in (a.0, all_from_every xs a.1)
 
-  pub every_from_all : (xs : List X) → All (λ x. test x ≡ true) xs → every test xs ≡ true
+  pub every_from_all : (xs : List X) → AllByRecursion (λ x. test x ≡ true) xs → every test xs ≡ true
   every_from_all [] h = refl
   every_from_all (x ∷ xs) h = and_from _ _ h.0 (every_from_all xs h.1)
 

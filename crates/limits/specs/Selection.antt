@@ -1,6 +1,6 @@
 -- Selections: the lists of pairs that limits and measures speak of.
 use Rattle.std.specs.Prelude.{◌≡◌, ℕ, ◌≤◌, true, List, length}
-use Rattle.std.specs.List.{AllZip, AllByRecursion as All}
+use Rattle.std.specs.List.{AllZip, AllByRecursion}
 use Rattle.limits.specs.declared.pair.Pair.{Pair}
 use Rattle.limits.specs.Gaps.{eight_gaps}
 use Rattle.limits.specs.Lawful.{lawful}
@@ -16,7 +16,7 @@ Lawful p = lawful eight_gaps p ≡ true
 -- a selection: not too many pairs, each lawful
 pub record Selection (s : List Pair) : Type 0 where
   pub few : length s ≤ max_pairs
-  pub each : All Lawful s
+  pub each : AllByRecursion Lawful s
 
 -- the pairs have the same gap, and the MTU of the first does not exceed that of the second
 abbrev pub Lower : Pair → Pair → Type 0

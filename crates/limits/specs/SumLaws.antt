@@ -1,7 +1,7 @@
 -- The laws of the sums over a selection: what a limit or a measure that adds up its pairs rests on.
 use Rattle.std.specs.Prelude.{◌≡◌, ℕ, ◌+◌, ◌*◌, ◌≤◌, List, [], ◌∷◌, ◌++◌, sum_by, refl}
 use Rattle.std.proofs.Common.{le_trans, mul-le-mul_right, arith}
-use Rattle.std.specs.List.{AllByRecursion as All}
+use Rattle.std.specs.List.{AllByRecursion}
 use Rattle.std.proofs.ByRecursion.{All-weaker, sum_by_le}
 use Rattle.std.proofs.lemmas.List.Sums.{sum_by-cons, sum_by-append, sum_by_push}
 use Rattle.limits.specs.declared.pair.Pair.{Pair}
@@ -20,7 +20,7 @@ pub record Adds (total : List Pair → ℕ) (figure : Pair → ℕ) (most : ℕ)
   pub bound : (s : List Pair) → Selection s → total s ≤ max_pairs * most
 
 module _ (figure : Pair → ℕ) (most : ℕ) (rises : (p q : Pair) → Lawful q → Lower p q → figure p ≤ figure q) (bounded : (p : Pair) → Lawful p → figure p ≤ most) where
-  lowered : (xs ys : List Pair) → All Lawful ys → Lowered xs ys → sum_by figure xs ≤ sum_by figure ys
+  lowered : (xs ys : List Pair) → AllByRecursion Lawful ys → Lowered xs ys → sum_by figure xs ≤ sum_by figure ys
   lowered [] [] h low = omega arith
   lowered [] (y ∷ ys) h low = absurd low
   lowered (x ∷ xs) [] h low = absurd low

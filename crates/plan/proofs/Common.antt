@@ -3,7 +3,7 @@ use mathlib.Core.List.{List, [], ◌∷◌}
 use Prim.Native.Nat.{ℕ, ◌<◌, ◌∣◌}
 use native.Mathlib.Nat.{dvd_trans, one-dvd}
 use native.Mathlib.Omega.{arith}
-use Rattle.std.specs.List.{AllByRecursion as All}
+use Rattle.std.specs.List.{AllByRecursion}
 use Rattle.std.proofs.ByRecursion.{All-weaker}
 use Rattle.plan.specs.declared.flow.Flow.{Flow}
 use Rattle.plan.specs.Cycle.{lcm, common, LeastCommon}
@@ -12,7 +12,7 @@ use Rattle.plan.proofs.Gcd.{lcm_left, lcm_right, lcm_least, lcm_pos}
 
 -- every cycle is positive
 abbrev Positive : List Flow → Type 0
-Positive fs = All (λ f. 0 < f.cycle) fs
+Positive fs = AllByRecursion (λ f. 0 < f.cycle) fs
 
 positive_common : (fs : List Flow) → Positive fs → 0 < common fs
 positive_common [] p = omega arith
@@ -24,18 +24,18 @@ positive fs r = All-weaker _ (λ f. 0 < f.cycle) (λ f e. e.2) fs r
 pub common_pos : (fs : List Flow) → AllInRange fs → 0 < common fs
 common_pos fs r = positive_common fs (positive fs r)
 
-pub common_divided : (fs : List Flow) → All (λ f. f.cycle ∣ common fs) fs
+pub common_divided : (fs : List Flow) → AllByRecursion (λ f. f.cycle ∣ common fs) fs
 common_divided [] = tt
 common_divided (f ∷ fs) = (
   lcm_left f.cycle (common fs),
   All-weaker _ (λ g. g.cycle ∣ lcm f.cycle (common fs)) (λ g d. dvd_trans g.cycle d (lcm_right f.cycle (common fs))) fs (common_divided fs),
 )
 
-divides_positive : (fs : List Flow) → Positive fs → (m : ℕ) → All (λ f. f.cycle ∣ m) fs → common fs ∣ m
+divides_positive : (fs : List Flow) → Positive fs → (m : ℕ) → AllByRecursion (λ f. f.cycle ∣ m) fs → common fs ∣ m
 divides_positive [] p m d = one-dvd m
 divides_positive (f ∷ fs) p m d = lcm_least f.cycle (common fs) m (positive_common fs p.1) d.0 (divides_positive fs p.1 m d.1)
 
-pub common_divides : (fs : List Flow) → AllInRange fs → (m : ℕ) → All (λ f. f.cycle ∣ m) fs → common fs ∣ m
+pub common_divides : (fs : List Flow) → AllInRange fs → (m : ℕ) → AllByRecursion (λ f. f.cycle ∣ m) fs → common fs ∣ m
 common_divides fs r = divides_positive fs (positive fs r)
 
 pub common_least : LeastCommon

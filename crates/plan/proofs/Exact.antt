@@ -2,7 +2,7 @@
 use Rattle.std.proofs.Common.{◌≡◌, ℕ, ◌+◌, ◌*◌, ◌/◌, ◌<◌, ◌≤◌, true, List, [], ◌∷◌, map, sym, ap, ◌∙◌, mul-le-mul_right, mul_assoc, mul_comm, add-mul, mul-le-mul_left, mul-pos, one-mul, mul-add, mul_right_comm, le_of_mul-le-mul_right, arith}
 use Prim.Native.Nat.{◌∣◌}
 use native.Mathlib.Nat.{mul-mul-mul_comm, le_of_mul-le-mul_left, mul-div_cancel'}
-use Rattle.std.specs.List.{AllByRecursion as All}
+use Rattle.std.specs.List.{AllByRecursion}
 use Rattle.std.proofs.lemmas.Bool.{leb-true, le-leb}
 use Rattle.std.proofs.lemmas.Bool.Decides.{same_from_decides}
 use Rattle.plan.specs.declared.flow.Flow.{Flow}
@@ -25,7 +25,7 @@ module _ (h m : ℕ) where
   den_pos [] r = omega arith
   den_pos (f ∷ fs) r = mul-pos r.0.2 (den_pos fs r.1)
 
-  scaled : (fs : List Flow) → All (λ f. f.cycle ∣ h) fs → (total (map (rate m) fs)).num * h ≡ (total (map (rate m) fs)).den * sent h m fs
+  scaled : (fs : List Flow) → AllByRecursion (λ f. f.cycle ∣ h) fs → (total (map (rate m) fs)).num * h ≡ (total (map (rate m) fs)).den * sent h m fs
   scaled [] d = omega (arith, one-mul h)
   scaled (f ∷ fs) d =
       add_one_flow (frames f.payload m) f.cycle (total (map (rate m) fs)).den (total (map (rate m) fs)).num h (sent h m fs) (h / f.cycle)

@@ -1,6 +1,6 @@
 -- What the standing of every plan keeps, as facts, and what they tell of the flows of a link.
 use Rattle.std.proofs.Common.{◌≡◌, ℕ, ◌≤◌, true, false, List, [], ◌∷◌, length, get_or, sym, refl, ap, ◌∙◌, subst, ⊎_elim, arith}
-use Rattle.std.specs.List.{AllByRecursion as All}
+use Rattle.std.specs.List.{AllByRecursion}
 use Rattle.std.proofs.ByRecursion.{All-weaker, all_kept_by, All-get_or}
 use Rattle.std.proofs.lemmas.List.Sums.{length-filter, count_by-le-length}
 use Rattle.std.proofs.lemmas.Bool.{ne_eqb, leb-true, le-leb, and_parts, and_from, both_ways, cases_Bool, cond-false}
@@ -22,8 +22,8 @@ pub record Good (st : Standing) : Type 0 where
   pub few_flows : length st.flows ≤ max_flows
   pub apart : single st.links ≡ true
   pub up : Up st.flows
-  pub each : All (λ f. proper st f ≡ true) st.flows
-  pub short : All (λ k. common (flows_of st k) ≤ max_common_cycle) st.links
+  pub each : AllByRecursion (λ f. proper st f ≡ true) st.flows
+  pub short : AllByRecursion (λ k. common (flows_of st k) ≤ max_common_cycle) st.links
 
 pub facts_from_good : (st : Standing) → good st ≡ true → Good st
 facts_from_good st h =
@@ -68,7 +68,7 @@ link_stands st n g h =
     subst (λ k. stands st k ≡ true) (sym own) (and_parts (stands st f.link) _ each).0
 
 -- no flow is of a link that does not stand
-of_no_link : (k : ℕ) (fs : List Flow) → All (λ f. is_of k f ≡ false) fs → of_link k fs ≡ []
+of_no_link : (k : ℕ) (fs : List Flow) → AllByRecursion (λ f. is_of k f ≡ false) fs → of_link k fs ≡ []
 of_no_link k [] h = refl
 of_no_link k (f ∷ fs) h = cond-false _ _ _ h.0 ∙ of_no_link k fs h.1
 

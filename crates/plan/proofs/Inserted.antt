@@ -1,6 +1,6 @@
 -- A flow inserted by its name: its position, what it keeps, and the links whose flows it changes.
 use Rattle.std.proofs.Common.{◌≡◌, ℕ, suc, ◌+◌, ◌<◌, Bool, true, false, cond, ltb, List, [], ◌∷◌, length, refl, ap, ◌∙◌, arith}
-use Rattle.std.specs.List.{insert as inserted, AllByRecursion as All}
+use Rattle.std.specs.List.{insert as inserted, AllByRecursion}
 use Rattle.std.proofs.ByRecursion.{All-weaker, all_kept_by}
 use Rattle.std.proofs.lemmas.Bool.{eqb-false, le-ltb, ltb-true, ltb-false, or_parts, cond-true, cond-false, cond_both}
 use Rattle.plan.specs.declared.flow.Flow.{Flow}
@@ -21,7 +21,7 @@ insert_at_position f (g ∷ gs) =
       | false ↦ refl
     ]
 
-pub insert_first : (f : Flow) (fs : List Flow) → All (λ g. f.name < g.name) fs → insert f fs ≡ f ∷ fs
+pub insert_first : (f : Flow) (fs : List Flow) → AllByRecursion (λ g. f.name < g.name) fs → insert f fs ≡ f ∷ fs
 insert_first f [] h = refl
 insert_first f (g ∷ gs) h = cond-false _ _ _ (le-ltb g.name f.name (omega arith))
 
@@ -31,10 +31,10 @@ length-insert f (g ∷ gs) =
     cond_both (ltb g.name f.name) (g ∷ insert f gs) (f ∷ g ∷ gs) (λ l. length l ≡ length (g ∷ gs) + 1)
     (λ _. let rest = length-insert f gs in omega arith) (λ _. omega arith)
 
-pub all_insert : (P : Flow → Type 0) (f : Flow) (fs : List Flow) → P f → All P fs → All P (insert f fs)
+pub all_insert : (P : Flow → Type 0) (f : Flow) (fs : List Flow) → P f → AllByRecursion P fs → AllByRecursion P (insert f fs)
 all_insert P f [] p h = (p, tt)
 all_insert P f (g ∷ gs) p h =
-    cond_both (ltb g.name f.name) (g ∷ insert f gs) (f ∷ g ∷ gs) (All P) (λ _. (h.0, all_insert P f gs p h.1)) (λ _. (p, h))
+    cond_both (ltb g.name f.name) (g ∷ insert f gs) (f ∷ g ∷ gs) (AllByRecursion P) (λ _. (h.0, all_insert P f gs p h.1)) (λ _. (p, h))
 
 pub Up-insert : (f : Flow) (fs : List Flow) → Up fs → named fs f.name ≡ false → Up (insert f fs)
 Up-insert f [] u s = (tt, tt)

@@ -2,7 +2,7 @@
 use Rattle.std.proofs.Common.{◌≡◌, ℕ, ◌<◌, ◌≤◌, Bool, true, false, cond, List, [], ◌∷◌, length, filter, sym, refl, ap, ◌∙◌, subst, arith}
 use Prim.Native.Nat.{◌∣◌}
 use native.Mathlib.Nat.{le_of_dvd}
-use Rattle.std.specs.List.{remove, AllByRecursion as All}
+use Rattle.std.specs.List.{remove, AllByRecursion}
 use Rattle.std.proofs.ByRecursion.{all_kept_by}
 use Rattle.std.proofs.lemmas.List.Sums.{length-filter, count_by-le-length}
 use Rattle.std.proofs.lemmas.Bool.{eq-eqb, ne_eqb, or_parts, or_from, not-true, cond-true, cond-false, cond_both, not_from_true, not_from_false}
@@ -17,18 +17,18 @@ use Rattle.plan.proofs.Found.{Found, here, there}
 
 -- what holds of each that is kept holds of each that passes the test
 module _ {X : Type 0} (test : X → Bool) (P : X → Type 0) where
-  behind : (b : Bool) (x : X) (xs : List X) → All P (cond b (x ∷ xs) xs) → All P xs
+  behind : (b : Bool) (x : X) (xs : List X) → AllByRecursion P (cond b (x ∷ xs) xs) → AllByRecursion P xs
   behind true x xs h = h.1
   behind false x xs h = h
 
-  all_from_kept : (xs : List X) → All P (filter test xs) → All (λ x. test x ≡ true → P x) xs
+  all_from_kept : (xs : List X) → AllByRecursion P (filter test xs) → AllByRecursion (λ x. test x ≡ true → P x) xs
   all_from_kept [] h = tt
-  all_from_kept (x ∷ xs) h = (λ e. (subst (All P) (cond-true _ _ _ e) h).0, all_from_kept xs (behind (test x) x (filter test xs) h))
+  all_from_kept (x ∷ xs) h = (λ e. (subst (AllByRecursion P) (cond-true _ _ _ e) h).0, all_from_kept xs (behind (test x) x (filter test xs) h))
 
-  all_to_kept : (xs : List X) → All (λ x. test x ≡ true → P x) xs → All P (filter test xs)
+  all_to_kept : (xs : List X) → AllByRecursion (λ x. test x ≡ true → P x) xs → AllByRecursion P (filter test xs)
   all_to_kept [] h = tt
   all_to_kept (x ∷ xs) h =
-      cond_both (test x) (x ∷ filter test xs) (filter test xs) (All P) (λ e. (h.0 e, all_to_kept xs h.1)) (λ _. all_to_kept xs h.1)
+      cond_both (test x) (x ∷ filter test xs) (filter test xs) (AllByRecursion P) (λ e. (h.0 e, all_to_kept xs h.1)) (λ _. all_to_kept xs h.1)
 
 pub without_same : (n : ℕ) (f : Flow) (fs : List Flow) → f.name ≡ n → without n (f ∷ fs) ≡ without n fs
 without_same n f fs e = cond-false _ _ _ (not_from_true _ (eq-eqb _ _ e))
@@ -68,7 +68,7 @@ length-without_found {n} (here {f = f} {fs = fs} e none) = let same = ap length 
 length-without_found {n} (there {f = f} {fs = fs} ne r) = let same = ap length (without_other n f fs ne) in let less = length-without_found r in omega arith
 
 -- what holds of each flow of the link still holds when one is struck
-all_of_link : (P : Flow → Type 0) (k n : ℕ) (fs : List Flow) → All P (of_link k fs) → All P (of_link k (without n fs))
+all_of_link : (P : Flow → Type 0) (k n : ℕ) (fs : List Flow) → AllByRecursion P (of_link k fs) → AllByRecursion P (of_link k (without n fs))
 all_of_link P k n fs h =
     all_to_kept (is_of k) P (without n fs) (all_kept_by (other_name n) (λ f. is_of k f ≡ true → P f) fs (all_from_kept (is_of k) P fs h))
 

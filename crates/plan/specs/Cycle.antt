@@ -1,7 +1,7 @@
 -- The greatest common divisor by Euclid's rule, the least common multiple, and the common cycle of flows.
 use Rattle.std.specs.Prelude.{◌≡◌, ℕ, zero, suc, ◌*◌, ◌/◌, ◌%◌, ◌<◌, List, [], ◌∷◌}
 use Rattle.std.specs.Int.{◌∣◌}
-use Rattle.std.specs.List.{AllByRecursion as All}
+use Rattle.std.specs.List.{AllByRecursion}
 use Rattle.plan.specs.declared.flow.Flow.{Flow}
 
 -- Euclid's rule, at most n times: b falls each time, so b times are enough
@@ -30,5 +30,5 @@ Euclid = ((a : ℕ) → gcd a 0 ≡ a) × ((a b : ℕ) → 0 < b → gcd a b ≡
 -- every cycle divides the common cycle, and that divides whatever every cycle divides
 abbrev pub LeastCommon : Type 0
 LeastCommon =
-    (fs : List Flow) → All (λ f. 0 < f.cycle) fs →
-    All (λ f. f.cycle ∣ common fs) fs × ((m : ℕ) → All (λ f. f.cycle ∣ m) fs → common fs ∣ m)
+    (fs : List Flow) → AllByRecursion (λ f. 0 < f.cycle) fs →
+    AllByRecursion (λ f. f.cycle ∣ common fs) fs × ((m : ℕ) → AllByRecursion (λ f. f.cycle ∣ m) fs → common fs ∣ m)

@@ -1,7 +1,7 @@
 -- Laws of the ledger: what holds of it after every list of calls.
 use Rattle.std.specs.Prelude.{◌≡◌, ℕ, true, List, map, Some, ◌≢◌}
 use Rattle.std.specs.Option.{option_map}
-use Rattle.std.specs.List.{AllByRecursion as All}
+use Rattle.std.specs.List.{AllByRecursion}
 use Rattle.plan.specs.declared.call.Call.{Call}
 use Rattle.plan.specs.declared.flow.Flow.{Flow}
 use Rattle.plan.specs.Accepted.{accepted, links_added, adds, concerns, link_given, figures_given, last_given}
@@ -24,7 +24,7 @@ SingleNames calls =
 
 -- the link of every flow stands
 abbrev pub LinksStand : List Call → Type 0
-LinksStand calls = All (λ f. stands (ledger calls) f.link ≡ true) (ledger calls).flows
+LinksStand calls = AllByRecursion (λ f. stands (ledger calls) f.link ≡ true) (ledger calls).flows
 
 -- the links stand in the order in which they were added
 abbrev pub InOrderOfAdding : List Call → Type 0

@@ -1,7 +1,7 @@
 -- The first element that fails a test, by what the elements before it are.
 use Rattle.std.proofs.Common.{◌≡◌, ℕ, zero, suc, ◌+◌, ◌<◌, Bool, true, false, cond, List, [], ◌∷◌, length, get_or, take, is_some, Some, None, Option, sym, refl, ap, ◌∙◌, arith}
 use Rattle.std.specs.Option.{option_map}
-use Rattle.std.specs.List.{AllByRecursion as All}
+use Rattle.std.specs.List.{AllByRecursion}
 use Rattle.std.proofs.lemmas.Bool.{cond-true, cond-false, false≢true}
 use Rattle.planner.specs.Asked.{first_failing}
 
@@ -14,7 +14,7 @@ none_behind (Some n) e = absurd (none_is_not_some (suc n) (sym e))
 
 module _ {X : Type 0} (test : X → Bool) where
   abbrev pub Passes : List X → Type 0
-  Passes xs = All (λ x. test x ≡ true) xs
+  Passes xs = AllByRecursion (λ x. test x ≡ true) xs
 
   pub fails_at : (xs : List X) (i : ℕ) (d : X) → Passes (take i xs) → i < length xs → test (get_or xs i d) ≡ false → first_failing test xs ≡ Some (i + 1)
   fails_at [] i d before lt f = absurd (omega arith)
@@ -34,6 +34,6 @@ module _ {X : Type 0} (test : X → Bool) where
   passes_from_none [] h = tt
   passes_from_none (x ∷ xs) h = let p = passes_first x xs (test x) refl h in (p.0, passes_from_none xs p.1)
 
-pub same_failing : {X : Type 0} (f g : X → Bool) (xs : List X) → All (λ x. f x ≡ g x) xs → first_failing f xs ≡ first_failing g xs
+pub same_failing : {X : Type 0} (f g : X → Bool) (xs : List X) → AllByRecursion (λ x. f x ≡ g x) xs → first_failing f xs ≡ first_failing g xs
 same_failing f g [] h = refl
 same_failing f g (x ∷ xs) h = λ i. cond (h.0 i) (option_map suc (same_failing f g xs h.1 i)) (Some 1)

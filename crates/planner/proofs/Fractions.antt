@@ -1,7 +1,7 @@
 -- The rules of a port in exact fractions are those in whole units and bytes.
 use Rattle.std.proofs.Common.{◌≡◌, ℕ, ◌+◌, ◌*◌, ◌<◌, ◌≤◌, List, [], ◌∷◌, map, sym, ap, ◌∙◌, mul_assoc, mul_comm, add-mul, mul-le-mul_left, mul-pos, mul-add, mul_right_comm, arith}
 use native.Mathlib.Nat.{le_of_mul-le-mul_left}
-use Rattle.std.specs.List.{AllByRecursion as All}
+use Rattle.std.specs.List.{AllByRecursion}
 use Rattle.std.proofs.lemmas.Bool.{leb-true, le-leb}
 use Rattle.std.proofs.lemmas.Bool.Decides.{same_from_decides}
 use Rattle.limits.specs.declared.pair.Pair.{Pair}
@@ -22,14 +22,14 @@ add_pair f g u D N U exact rest =
     add-mul (f * D) (N * g) 128 ∙ (λ i. new i + old i) ∙ sym (mul-add (g * D) u U)
 
 -- the bytes a millisecond of the pairs, N / D, are their units over 128
-scaled : (s : List Pair) → All Lawful s → (total (map bytes_per_ms s)).num * 128 ≡ (total (map bytes_per_ms s)).den * reserve s
+scaled : (s : List Pair) → AllByRecursion Lawful s → (total (map bytes_per_ms s)).num * 128 ≡ (total (map bytes_per_ms s)).den * reserve s
 scaled [] h = omega (arith, reserve_adds.none)
 scaled (p ∷ s) h =
     let N = (total (map bytes_per_ms s)).num in
     let D = (total (map bytes_per_ms s)).den in
     add_pair (frame p) p.gap (units p) D N (reserve s) (units_exact p h.0) (scaled s h.1) ∙ ap (λ x. p.gap * D * x) (sym (reserve_adds.cons p s))
 
-den_positive : (s : List Pair) → All Lawful s → 0 < (total (map bytes_per_ms s)).den
+den_positive : (s : List Pair) → AllByRecursion Lawful s → 0 < (total (map bytes_per_ms s)).den
 den_positive [] h = omega arith
 den_positive (p ∷ s) h = mul-pos (gap_positive p h.0) (den_positive s h.1)
 
@@ -47,7 +47,7 @@ module _ (N D U R : ℕ) (e : N * 128 ≡ D * U) where
   to_fraction : U ≤ 16 * R → 8 * (1000 * N) * 1 ≤ R * 1000 * D
   to_fraction le = omega (arith, e, wide, narrow, mul-le-mul_left D le)
 
-pub bandwidth_exact : (share : ℕ) (s : List Pair) → All Lawful s → bandwidth_kept share s ≡ within_share share s
+pub bandwidth_exact : (share : ℕ) (s : List Pair) → AllByRecursion Lawful s → bandwidth_kept share s ≡ within_share share s
 bandwidth_exact share s h =
     let e = scaled s h in
     same_from_decides (bandwidth_kept share s) (within_share share s)

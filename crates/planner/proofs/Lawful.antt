@@ -1,6 +1,6 @@
 -- What rows are told once each names its link: few rows, a selection where gaps and MTUs are lawful, and then the rest.
 use Rattle.std.proofs.Common.{◌≡◌, ℕ, ◌≤◌, Bool, true, ◌&&◌, List, [], ◌∷◌, length, Some, None, sym, refl, ap, ◌∙◌, arith}
-use Rattle.std.specs.List.{AllByRecursion as All}
+use Rattle.std.specs.List.{AllByRecursion}
 use Rattle.std.proofs.ByRecursion.{All-map}
 use Rattle.std.proofs.lemmas.List.{length-map}
 use Rattle.std.proofs.lemmas.Bool.{and_from}
@@ -23,7 +23,7 @@ use Rattle.planner.proofs.Told.{past, stopped, no_breach, some_breach}
 true-and : (a b c : Bool) → a ≡ true → b ≡ true → (a && (b && c)) ≡ c
 true-and a b c ha hb = ap (λ x. x && (b && c)) ha ∙ ap (λ x. x && c) hb
 
-pairs_lawful : (rows : List Row) → Passes (gap_lawful eight_gaps) rows → Passes mtu_lawful rows → All (λ row. Lawful row.pair) rows
+pairs_lawful : (rows : List Row) → Passes (gap_lawful eight_gaps) rows → Passes mtu_lawful rows → AllByRecursion (λ row. Lawful row.pair) rows
 pairs_lawful [] g m = tt
 pairs_lawful (row ∷ rows) g m = (and_from _ _ g.0 m.0, pairs_lawful rows g.1 m.1)
 
@@ -32,7 +32,7 @@ module _ (st : Standing) (rows : List Row) (sound : good st ≡ true) (named : n
   few_rows = omega (arith, as_many st.links rows named, (facts_from_good st sound).few_links)
 
   module _ (gaps : None ≡ first_failing (gap_lawful eight_gaps) rows) (mtus : None ≡ first_failing mtu_lawful rows) where
-    each_lawful : All (λ row. Lawful row.pair) rows
+    each_lawful : AllByRecursion (λ row. Lawful row.pair) rows
     each_lawful = pairs_lawful rows (passes_from_none (gap_lawful eight_gaps) rows (sym gaps)) (passes_from_none mtu_lawful rows (sym mtus))
 
     pub lawful_selection : Selection (pairs rows)
@@ -45,7 +45,7 @@ module _ (st : Standing) (rows : List Row) (sound : good st ≡ true) (named : n
     abbrev pair_serves : Row → Bool
     pair_serves row = served eight_gaps st row.link row.pair
 
-    each_same : (rs : List Row) → All (λ row. stands st row.link ≡ true) rs → All (λ row. Lawful row.pair) rs → All (λ row. pair_serves row ≡ messages_served st row) rs
+    each_same : (rs : List Row) → AllByRecursion (λ row. stands st row.link ≡ true) rs → AllByRecursion (λ row. Lawful row.pair) rs → AllByRecursion (λ row. pair_serves row ≡ messages_served st row) rs
     each_same [] s l = tt
     each_same (row ∷ rs) s l = (true-and _ (lawful eight_gaps row.pair) (messages_served st row) s.0 l.0, each_same rs s.1 l.1)
 

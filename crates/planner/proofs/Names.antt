@@ -1,6 +1,6 @@
 -- Rows that name the links: a loop along both, and what it tells.
 use Rattle.std.proofs.Common.{◌≡◌, ℕ, suc, ◌+◌, ◌<◌, ◌≤◌, true, false, ◌&&◌, eqb, List, [], ◌∷◌, length, get_or, drop, sym, refl, ap, ◌∙◌, inl, inr, arith}
-use Rattle.std.specs.List.{AllByRecursion as All}
+use Rattle.std.specs.List.{AllByRecursion}
 use Rattle.std.proofs.ByRecursion.{All-weaker}
 use Rattle.std.proofs.lemmas.List.{drop_more, drop_all}
 use Rattle.std.proofs.lemmas.Bool.{cases_Bool, and_parts, eq-eqb, ne_eqb, eqb-true, or_left, or_right, false≢true}
@@ -22,7 +22,7 @@ pub not_as_many : (links : List ℕ) (rows : List Row) → (length links ≡ len
 not_as_many links rows ne = elim (cases_Bool (name_links links rows)) [ inl t ↦ absurd (ne (as_many links rows t)) | inr f ↦ sym f ]
 
 -- each row names one of the links
-pub rows_stand : (links : List ℕ) (rows : List Row) → name_links links rows ≡ true → All (λ row. among links row.link ≡ true) rows
+pub rows_stand : (links : List ℕ) (rows : List Row) → name_links links rows ≡ true → AllByRecursion (λ row. among links row.link ≡ true) rows
 rows_stand [] [] h = tt
 rows_stand [] (row ∷ rows) h = absurd (false≢true h)
 rows_stand (link ∷ links) [] h = absurd (false≢true h)

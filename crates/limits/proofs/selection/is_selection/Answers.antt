@@ -2,7 +2,7 @@ use Rattle.std.proofs.Common.{get_or, sym, refl, subst}
 use Rattle.std.proofs.ByRecursion.{All-more, All-get_or}
 use Rattle.std.proofs.lemmas.List.{take_all}
 use Rattle.std.proofs.lemmas.Bool.{both_ways, false≢true}
-use Rattle.std.specs.List.{AllByRecursion as All}
+use Rattle.std.specs.List.{AllByRecursion}
 use Rattle.limits.specs.Gaps.{eight_gaps}
 use Rattle.limits.specs.Lawful.{lawful}
 use Rattle.limits.specs.Selection.{Lawful}
@@ -20,5 +20,5 @@ returns-then-not-is_lawful c =
 
 pub returns : goal.returns
 returns c =
-    let all = subst (All Lawful) (take_all c.loop-pair.pair-index c.args.pairs.now c.loop-pair-test.false) c.loop-pair.invariant in
+    let all = subst (AllByRecursion Lawful) (take_all c.loop-pair.pair-index c.args.pairs.now c.loop-pair-test.false) c.loop-pair.invariant in
     (λ _. record { few = c.if-pairs-gt-MAX_PAIRS.false; each = all }, λ _. refl)
