@@ -1,10 +1,11 @@
 #!/usr/bin/env python3
 """Respells the definitions and lemmas of this repository: words in snake case, facts and records in upper camel case.
+A fact keeps its capital in the name of a lemma about it, as in `Up-insert`.
 
 usage: python3 tools/respell_names.py [FOLDER]
 
-A dash stays where it joins the names of two functions, as in `gcd-zero`. Only code is turned, in .antt files and in the
-clauses and `ghost use` lines of .rt files: comments, strings and what `src/` calls its functions keep their spelling.
+A dash stays where it joins the names of two functions, as in `gcd-zero`. Comments and strings keep their spelling, and so
+does what `src/` calls its functions, since no name of the table can stand there.
 """
 
 import os

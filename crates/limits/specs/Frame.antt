@@ -1,5 +1,5 @@
 -- What a frame takes on the wire, and what a pair reserves of the port. What rests on these uses their laws
--- (proofs/FrameLaws.antt): both rise with the MTU, and each has a greatest value.
+-- (FrameLaws.antt): both rise with the MTU, and each has a greatest value.
 use Rattle.std.specs.Prelude.{ℕ, ◌+◌, ◌*◌, ◌/◌}
 use Rattle.limits.specs.declared.pair.Pair.{Pair}
 

@@ -21,7 +21,7 @@ impl Plan {
         first_without_flow(self.links(), self.flows())
     }
 
-    /// Does the link stand, and does the pair, which is lawful, meet its message rule?
+    /// Does the link stand, is the pair lawful, and does it meet the link's message rule?
     pub fn is_served(&self, link: u16, pair: Pair) -> bool
         ensures { result ≡ served eight_gaps (standing self.now) link pair }
     {
