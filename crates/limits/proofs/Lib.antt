@@ -1,3 +1,1 @@
-pub mod AllYes
-pub mod Selections
 pub mod Both

@@ -1,14 +1,9 @@
 -- Which numbers are among a list.
-use Rattle.std.specs.Prelude.{◌≡◌, ℕ, zero, suc, ◌<◌, Bool, true, ◌||◌, List, [], ◌∷◌, length, ◌==◌, nat_eq, slice_index, refl}
-use Rattle.std.proofs.Common.{◌∙◌, ap, subst, inl, inr, arith}
-use Rattle.std.specs.List.{list_any, AllByRecursion}
+use Rattle.std.specs.Prelude.{◌≡◌, ℕ, zero, suc, ◌<◌, true, List, [], ◌∷◌, length, ◌==◌, slice_index, refl}
+use Rattle.std.proofs.Common.{subst, inl, inr, arith}
+use Rattle.std.specs.List.{AllByRecursion}
 use Rattle.std.proofs.lemmas.Bool.{eq-eqb, eqb-true, or_left, or_right, or_cases, false≢true}
 use Rattle.limits.specs.Range.{among}
-
--- the library's test for a number of a list is ours
-pub among_from_contains : (xs : List ℕ) (x : ℕ) (r : Bool) → r ≡ list_any (λ y. nat_eq y x) xs → r ≡ among xs x
-among_from_contains [] x r h = h
-among_from_contains (y ∷ ys) x r h = h ∙ ap (λ b. nat_eq y x || b) (among_from_contains ys x _ refl)
 
 pub among-get_or : (xs : List ℕ) (k : ℕ) → k < length xs → among xs (slice_index xs k) ≡ true
 among-get_or [] k h = absurd (omega arith)

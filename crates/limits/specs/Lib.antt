@@ -3,6 +3,7 @@ pub mod Gaps
 pub mod Lawful
 pub mod Frame
 pub mod Selection
+pub mod Taken
 pub mod Sums
 pub mod Breach
 pub mod Rules

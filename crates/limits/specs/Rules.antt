@@ -1,12 +1,12 @@
 -- The rules of a port, each a test of a selection.
 use Rattle.std.specs.Prelude.{ℕ, ◌*◌, Bool, List, nat_le}
 use Rattle.limits.specs.declared.pair.Pair.{Pair}
-use Rattle.limits.specs.Range.{every}
+use Rattle.std.specs.List.{list_all}
 use Rattle.limits.specs.Sums.{burst_bytes, reserve}
 
 -- no gap is below d milliseconds
 abbrev pub above_floor : ℕ → List Pair → Bool
-above_floor d s = every (λ p. nat_le d p.gap) s
+above_floor d s = list_all (λ p. nat_le d p.gap) s
 
 -- the pairs reserve at most r kbit/s
 abbrev pub within_share : ℕ → List Pair → Bool

@@ -1,5 +1,5 @@
 -- The laws of the sums over a selection: what a limit or a measure that adds up its pairs rests on.
-use Rattle.std.specs.Prelude.{◌≡◌, ℕ, ◌+◌, ◌*◌, ◌≤◌, List, [], ◌∷◌, ◌++◌, sum_by, refl}
+use Rattle.std.specs.Prelude.{◌≡◌, ℕ, ◌+◌, ◌*◌, ◌^◌, ◌<◌, ◌≤◌, List, [], ◌∷◌, ◌++◌, sum_by, refl}
 use Rattle.std.proofs.Common.{le_trans, mul-le-mul_right, arith}
 use Rattle.std.specs.List.{AllByRecursion}
 use Rattle.std.proofs.ByRecursion.{All-weaker, sum_by_le}
@@ -44,3 +44,10 @@ burst_adds = adds frame max_frame (λ p q _ low. frame_rises p q low) frame_most
 pub reserve_adds : Adds reserve units max_units
 unfolding reserve
 reserve_adds = adds units max_units units_rise units_most
+
+-- a number of 32 bits holds the sums of a selection
+pub burst_fits : max_pairs * max_frame < 2 ^ 32
+burst_fits = omega arith
+
+pub reserve_fits : max_pairs * max_units < 2 ^ 32
+reserve_fits = omega arith

@@ -1,6 +1,5 @@
--- A number in range, and a test beside one that holds.
-use Rattle.std.specs.Prelude.{◌≡◌, ℕ, ◌≤◌, Bool, true, false, ◌&&◌, refl}
-use Rattle.std.proofs.Common.{sym}
+-- A number in range, by its bounds.
+use Rattle.std.specs.Prelude.{◌≡◌, ℕ, ◌≤◌, true}
 use Rattle.std.proofs.lemmas.Bool.{leb-true, le-leb, and_parts, and_from}
 use Rattle.limits.specs.Range.{within}
 
@@ -9,7 +8,3 @@ within_from_le low high x l h = and_from _ _ (le-leb low x l) (le-leb x high h)
 
 pub le_from_within : (low high x : ℕ) → within low high x ≡ true → (low ≤ x) × (x ≤ high)
 le_from_within low high x h = let a = and_parts _ _ h in (leb-true low x a.0, leb-true x high a.1)
-
-pub and-true : (x y : Bool) → y ≡ true → x ≡ (x && y)
-and-true true y e = sym e
-and-true false y e = refl

@@ -5,7 +5,7 @@ ghost use Rattle.limits.specs.Breach.{unless, stacked};
 pub(crate) fn breach_unless(holds: bool) -> u32
     ensures { result ≡ unless holds }
 {
-    if holds { 0 } else { 1 }
+    u32::from(!holds)
 }
 
 /// The breach of a layer: 1 where its own rule fails, else one more than a breach below.

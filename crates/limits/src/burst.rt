@@ -1,13 +1,13 @@
-ghost use Rattle.std.specs.Prelude.{◌≡◌, List, [], ◌∷◌, ◌++◌};
+ghost use Rattle.std.specs.Prelude.{◌++◌};
 ghost use Rattle.limits.specs.Burst.{burst, burst_at_most};
 ghost use Rattle.limits.specs.BurstOrder.{smaller_burst};
 ghost use Rattle.limits.specs.SumLaws.{burst_adds, reserve_adds};
 ghost use Rattle.std.proofs.Common.{rules};
 
 use crate::burst_total::BurstTotal;
+use crate::figure::{FrameBytes, Units, with_pair};
 use crate::measure::Measure;
 use crate::pair::Pair;
-use crate::sums::{bytes_with, units_with};
 
 /// Measures the bytes of one frame of every pair, and between equals what is reserved.
 #[derive(Clone, Copy, Debug, PartialEq, Eq)]
@@ -28,21 +28,19 @@ impl Measure for Burst {
 
     ghost lowered = { λ m xs ys _ sel low. smaller_burst (burst xs) (burst ys) (burst_adds.lowers xs ys sel low) (reserve_adds.lowers xs ys sel low) };
 
+    #[tactic(auto, unfolding(crate::specs::Sums::burst_bytes, crate::specs::Sums::reserve))]
     fn empty_total(&self) -> BurstTotal {
         BurstTotal { bytes: 0, units: 0 }
     }
 
     fn total_with(&self, total: BurstTotal, pair: Pair) -> BurstTotal {
         BurstTotal {
-            bytes: bytes_with(total.bytes, pair),
-            units: units_with(total.units, pair),
+            bytes: with_pair::<FrameBytes>(total.bytes, pair),
+            units: with_pair::<Units>(total.units, pair),
         }
     }
 
     fn no_more(&self, x: BurstTotal, y: BurstTotal) -> bool {
-        if x.bytes == y.bytes {
-            return x.units <= y.units;
-        }
-        x.bytes < y.bytes
+        x <= y
     }
 }

@@ -9,6 +9,7 @@ const FRAME_OVERHEAD: u32 = 67;
 
 impl Pair {
     /// The bytes that one frame takes on the wire.
+    #[tactic(auto, unfolding(crate::specs::Frame::frame_bytes))]
     pub fn frame_bytes(self) -> u32
         ensures { result ≡ frame self }
     {
@@ -16,6 +17,7 @@ impl Pair {
     }
 
     /// What the pair reserves, in units of 1/16 kbit/s.
+    #[tactic(auto, using(crate::specs::FrameLaws::frame_most), unfolding(crate::specs::Frame::units))]
     pub(crate) fn units(self) -> u32
         requires { Lawful self }
         ensures { result ≡ units self }

@@ -12,8 +12,5 @@ pub const GAPS: [u16; GAP_COUNT] = [1, 2, 4, 8, 16, 32, 64, 128];
 pub(crate) fn is_gap(number: u32) -> bool
     ensures { result ≡ among eight_gaps number }
 {
-    match u16::try_from(number) {
-        Ok(gap) => GAPS.contains(&gap),
-        Err(_) => false,
-    }
+    u16::try_from(number).is_ok_and(|gap| GAPS.contains(&gap))
 }

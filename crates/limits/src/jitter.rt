@@ -1,4 +1,4 @@
-ghost use Rattle.std.specs.Prelude.{◌≡◌, ℕ, ◌*◌, List, [], ◌∷◌, ◌++◌};
+ghost use Rattle.std.specs.Prelude.{◌*◌, ◌++◌};
 ghost use Rattle.limits.specs.Breach.{unless};
 ghost use Rattle.limits.specs.Rules.{within_jitter};
 ghost use Rattle.limits.specs.Sums.{burst_bytes};
@@ -7,11 +7,13 @@ ghost use Rattle.limits.specs.Kept.{still_within, less_within};
 ghost use Rattle.limits.specs.SumLaws.{burst_adds};
 
 use crate::breach::breach_unless;
+use crate::figure::{FrameBytes, with_pair};
 use crate::limit::Limit;
 use crate::pair::Pair;
-use crate::sums::bytes_with;
 
 /// Admits what a port of so many kbit/s sends within 460 microseconds, one frame of every link. The load is the bytes so far.
+///
+/// `Share` has the same shape. One type for both would take a figure and two factors as parameters, and is no plainer.
 #[derive(Clone, Copy, Debug, PartialEq, Eq)]
 pub struct Jitter {
     pub rate: u32,
@@ -28,12 +30,13 @@ impl Limit for Jitter {
 
     ghost lowered = { λ l xs ys _ sel low h. still_within (within_jitter l.rate ys) _ (less_within (400 * burst_bytes xs) _ (23 * l.rate) (mul-le-mul_left 400 (burst_adds.lowers xs ys sel low))) h };
 
+    #[tactic(auto, unfolding(crate::specs::Sums::burst_bytes))]
     fn empty_load(&self) -> u32 {
         0
     }
 
     fn load_with(&self, load: u32, pair: Pair) -> u32 {
-        bytes_with(load, pair)
+        with_pair::<FrameBytes>(load, pair)
     }
 
     fn breach_of(&self, load: u32) -> u32 {

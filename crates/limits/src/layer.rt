@@ -1,4 +1,3 @@
-ghost use Rattle.std.specs.Prelude.{◌≡◌, ℕ, List, [], ◌∷◌, ◌++◌};
 ghost use Rattle.limits.specs.Breach.{stacked};
 ghost use Rattle.std.proofs.Common.{rules};
 

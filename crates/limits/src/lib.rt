@@ -4,6 +4,7 @@
 mod breach;
 pub mod burst;
 pub mod burst_total;
+mod figure;
 pub mod floor;
 mod frame;
 pub mod gaps;
@@ -19,7 +20,6 @@ mod port_limit;
 pub mod reserve;
 mod selection;
 pub mod share;
-mod sums;
 
 pub use burst::Burst;
 pub use burst_total::BurstTotal;

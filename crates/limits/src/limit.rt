@@ -1,10 +1,13 @@
-ghost use Rattle.std.specs.Prelude.{◌≡◌, ℕ, List, [], ◌∷◌, ◌++◌};
+ghost use Rattle.std.specs.Prelude.{◌≡◌, ℕ, List, [], ◌++◌};
 ghost use Rattle.limits.specs.declared.pair.Pair.{Pair};
 ghost use Rattle.limits.specs.Selection.{Selection, Lowered};
+ghost use Rattle.limits.specs.Taken.{MayTake, Takes};
 
 use crate::pair::Pair;
 
 /// What a port admits. A limit gives every selection a load and a breach; breach 0 is within the limit.
+///
+/// A load is kept as `Measure` keeps a total. The two stay apart, since others write against each as it is.
 pub trait Limit {
     /// What is kept of a selection to tell its breach and the load with one more pair.
     type Load: Copy;
@@ -21,10 +24,10 @@ pub trait Limit {
 
     /// The load of a selection with one more pair, from its load.
     fn load_with(&self, load: Self::Load, pair: Pair) -> Self::Load
-        requires { (s : List Pair) × (load ≡ loaded self.now s) × Selection (s ++ (pair ∷ [])) }
-        ensures { (s : List Pair) → load ≡ loaded self.now s → Selection (s ++ (pair ∷ [])) → result ≡ loaded self.now (s ++ (pair ∷ [])) };
+        requires { MayTake (loaded self.now) load pair }
+        ensures { Takes (loaded self.now) load pair result };
 
-    /// The breach of a selection, from its load.
+    /// The breach of a selection, from its load. It stays a number: laws and definitions stand on it, layers count it up, and a refusal tells it.
     fn breach_of(&self, load: Self::Load) -> u32
         requires { (s : List Pair) × (load ≡ loaded self.now s) × Selection s }
         ensures { (s : List Pair) → load ≡ loaded self.now s → Selection s → result ≡ breach self.now s };

@@ -1,10 +1,13 @@
-ghost use Rattle.std.specs.Prelude.{◌≡◌, Bool, true, false, List, [], ◌∷◌, ◌++◌};
+ghost use Rattle.std.specs.Prelude.{◌≡◌, Bool, true, false, List, [], ◌++◌};
 ghost use Rattle.limits.specs.declared.pair.Pair.{Pair};
 ghost use Rattle.limits.specs.Selection.{Selection, Lowered};
+ghost use Rattle.limits.specs.Taken.{MayTake, Takes};
 
 use crate::pair::Pair;
 
 /// What a selection costs. A measure gives every selection a total, and compares any two totals.
+///
+/// A total is kept as `Limit` keeps a load. The two stay apart, since others write against each as it is.
 pub trait Measure {
     /// What a selection comes to.
     type Total: Copy;
@@ -21,8 +24,8 @@ pub trait Measure {
 
     /// The total of a selection with one more pair, from its total.
     fn total_with(&self, total: Self::Total, pair: Pair) -> Self::Total
-        requires { (s : List Pair) × (total ≡ totalled self.now s) × Selection (s ++ (pair ∷ [])) }
-        ensures { (s : List Pair) → total ≡ totalled self.now s → Selection (s ++ (pair ∷ [])) → result ≡ totalled self.now (s ++ (pair ∷ [])) };
+        requires { MayTake (totalled self.now) total pair }
+        ensures { Takes (totalled self.now) total pair result };
 
     /// Is the first total no more than the second?
     fn no_more(&self, x: Self::Total, y: Self::Total) -> bool

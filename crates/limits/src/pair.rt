@@ -3,7 +3,7 @@ ghost use Rattle.limits.specs.Gaps.{eight_gaps};
 ghost use Rattle.limits.specs.Lawful.{mtu_min, mtu_max, lawful};
 ghost use Rattle.limits.specs.Range.{within, among};
 
-use crate::gaps::{GAPS, is_gap};
+use crate::gaps::is_gap;
 
 /// The smallest MTU, in bytes.
 pub const MTU_MIN: u16 = 1;
@@ -11,8 +11,8 @@ pub const MTU_MIN: u16 = 1;
 /// The largest MTU, in bytes.
 pub const MTU_MAX: u16 = 1471;
 
-/// A bandwidth allocation gap in milliseconds and an MTU in bytes.
-#[derive(Clone, Copy, Debug, PartialEq, Eq)]
+/// A bandwidth allocation gap in milliseconds and an MTU in bytes. The default fills places that hold no pair yet: it is unlawful.
+#[derive(Clone, Copy, Debug, Default, PartialEq, Eq)]
 pub struct Pair {
     pub gap: u16,
     pub mtu: u16,
@@ -30,16 +30,13 @@ impl Pair {
     pub fn has_lawful_mtu(self) -> bool
         ensures { result ≡ within mtu_min mtu_max self.mtu }
     {
-        MTU_MIN <= self.mtu && self.mtu <= MTU_MAX
+        (MTU_MIN..=MTU_MAX).contains(&self.mtu)
     }
 
     /// Is the gap one of the eight, and the MTU from 1 to 1,471?
     pub fn is_lawful(self) -> bool
         ensures { result ≡ lawful eight_gaps self }
     {
-        if self.mtu < MTU_MIN || self.mtu > MTU_MAX {
-            return false;
-        }
-        GAPS.contains(&self.gap)
+        self.has_lawful_gap() && self.has_lawful_mtu()
     }
 }

@@ -6,9 +6,9 @@ use std::fmt;
 /// Why figures make no port.
 #[derive(Clone, Copy, Debug, PartialEq, Eq)]
 pub enum PortFault {
-    RateOutOfRange,
-    ShareOutOfRange,
-    FloorNotAGap,
+    RateOutOfRange = 1,
+    ShareOutOfRange = 2,
+    FloorNotAGap = 3,
 }
 
 impl PortFault {
@@ -16,23 +16,21 @@ impl PortFault {
     pub fn number(self) -> u8
         ensures { result ≡ number self }
     {
-        match self {
-            PortFault::RateOutOfRange => 1,
-            PortFault::ShareOutOfRange => 2,
-            PortFault::FloorNotAGap => 3,
-        }
+        self as u8
     }
 
     /// What the refusal tells beside its number: nothing, so 0.
     pub fn detail(self) -> u32
         ensures { result ≡ detail self }
     {
+        // a table of its own cases, as in every type of refusals: a trait for all would leave the tables, and is no plainer
         match self {
             PortFault::RateOutOfRange | PortFault::ShareOutOfRange | PortFault::FloorNotAGap => 0,
         }
     }
 
     /// What the refusal says in words.
+    #[tactic(auto, unfolding(crate::specs::PortFault::text))]
     fn text(self) -> &'static str
         ensures { result.now ≡ text self }
     {
@@ -44,11 +42,11 @@ impl PortFault {
     }
 }
 
+// By hand: what a derive writes promises no words.
 impl fmt::Display for PortFault {
     ghost output = { λ fault. Some (text fault) };
 
     fn fmt<W: fmt::Write>(&self, f: &mut fmt::Formatter<W>) -> fmt::Result {
-        let text = self.text();
-        write!(f, "{text}")
+        f.write_str(self.text())
     }
 }

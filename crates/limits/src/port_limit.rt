@@ -18,6 +18,7 @@ const MAX_RATE: u32 = 1_000_000;
 /// The floor over the share over jitter.
 pub type PortLimit = Layer<Floor, Layer<Share, Layer<Jitter, Open>>>;
 
+// The contract of each call says its whole outcome, and so its detail too.
 impl Port {
     /// A port with these figures.
     pub fn new(rate: u32, share: u32, floor: u32) -> Result<Port, PortFault>
@@ -25,10 +26,10 @@ impl Port {
         ensures detail { told_detail result ≡ 0 }
         ensures figures { IfOk result (HasFigures rate share floor) }
     {
-        if rate < 1 || rate > MAX_RATE {
+        if !(1..=MAX_RATE).contains(&rate) {
             return Err(PortFault::RateOutOfRange);
         }
-        if share < 1 || share > rate {
+        if !(1..=rate).contains(&share) {
             return Err(PortFault::ShareOutOfRange);
         }
         if !is_gap(floor) {

@@ -1,12 +1,12 @@
-ghost use Rattle.std.specs.Prelude.{◌≡◌, List, [], ◌∷◌, ◌++◌, nat_le};
+ghost use Rattle.std.specs.Prelude.{◌++◌, nat_le};
 ghost use Rattle.limits.specs.Sums.{reserve};
 ghost use Rattle.std.proofs.lemmas.Bool.{le-leb};
 ghost use Rattle.limits.specs.SumLaws.{reserve_adds};
 ghost use Rattle.std.proofs.Common.{rules};
 
+use crate::figure::{Units, with_pair};
 use crate::measure::Measure;
 use crate::pair::Pair;
-use crate::sums::units_with;
 
 /// Measures what is reserved, in units of 1/16 kbit/s.
 #[derive(Clone, Copy, Debug, PartialEq, Eq)]
@@ -27,12 +27,13 @@ impl Measure for Reserve {
 
     ghost lowered = { λ m xs ys _ sel low. le-leb (reserve xs) (reserve ys) (reserve_adds.lowers xs ys sel low) };
 
+    #[tactic(auto, unfolding(crate::specs::Sums::reserve))]
     fn empty_total(&self) -> u32 {
         0
     }
 
     fn total_with(&self, total: u32, pair: Pair) -> u32 {
-        units_with(total, pair)
+        with_pair::<Units>(total, pair)
     }
 
     fn no_more(&self, x: u32, y: u32) -> bool {

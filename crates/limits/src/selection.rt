@@ -1,4 +1,4 @@
-ghost use Rattle.std.specs.Prelude.{◌≡◌, Decides};
+ghost use Rattle.std.specs.Prelude.{Decides};
 ghost use Rattle.limits.specs.Judged.{Judged};
 ghost use Rattle.limits.specs.Selection.{Selection};
 
@@ -16,7 +16,11 @@ pub fn breach_of_pairs<L: Limit>(limit: &L, pairs: &[Pair]) -> Option<u32>
     if !is_selection(pairs) {
         return None;
     }
-    Some(limit.breach_of(load_of(limit, pairs)))
+    let mut load = limit.empty_load();
+    for pair in pairs {
+        load = limit.load_with(load, *pair);
+    }
+    Some(limit.breach_of(load))
 }
 
 /// The total of the pairs by the measure, or none where they are no selection.
@@ -26,44 +30,17 @@ pub fn total_of_pairs<M: Measure>(measure: &M, pairs: &[Pair]) -> Option<M::Tota
     if !is_selection(pairs) {
         return None;
     }
-    Some(total_of(measure, pairs))
+    // as the loop above: a `fold`, or one function for both, takes each step as a closure with two clauses, and is no plainer
+    let mut total = measure.empty_total();
+    for pair in pairs {
+        total = measure.total_with(total, *pair);
+    }
+    Some(total)
 }
 
 /// Are the pairs a selection?
 fn is_selection(pairs: &[Pair]) -> bool
     ensures { Decides result (Selection pairs.now) }
 {
-    if pairs.len() > MAX_PAIRS {
-        return false;
-    }
-    for pair in pairs {
-        if !pair.is_lawful() {
-            return false;
-        }
-    }
-    true
-}
-
-/// The load of a selection.
-fn load_of<L: Limit>(limit: &L, pairs: &[Pair]) -> L::Load
-    requires { Selection pairs.now }
-    ensures { result ≡ L.loaded limit.now pairs.now }
-{
-    let mut load = limit.empty_load();
-    for pair in pairs {
-        load = limit.load_with(load, *pair);
-    }
-    load
-}
-
-/// The total of a selection.
-fn total_of<M: Measure>(measure: &M, pairs: &[Pair]) -> M::Total
-    requires { Selection pairs.now }
-    ensures { result ≡ M.totalled measure.now pairs.now }
-{
-    let mut total = measure.empty_total();
-    for pair in pairs {
-        total = measure.total_with(total, *pair);
-    }
-    total
+    pairs.len() <= MAX_PAIRS && pairs.iter().all(|pair| pair.is_lawful())
 }

@@ -1,4 +1,4 @@
-ghost use Rattle.std.specs.Prelude.{◌≡◌, ℕ, ◌*◌, List, [], ◌∷◌, ◌++◌};
+ghost use Rattle.std.specs.Prelude.{◌*◌, ◌++◌};
 ghost use Rattle.limits.specs.Breach.{unless};
 ghost use Rattle.limits.specs.Rules.{within_share};
 ghost use Rattle.limits.specs.Sums.{reserve};
@@ -6,11 +6,13 @@ ghost use Rattle.limits.specs.Kept.{still_within, less_within};
 ghost use Rattle.limits.specs.SumLaws.{reserve_adds};
 
 use crate::breach::breach_unless;
+use crate::figure::{Units, with_pair};
 use crate::limit::Limit;
 use crate::pair::Pair;
-use crate::sums::units_with;
 
 /// Admits what reserves at most so many kbit/s. The load is what is reserved so far, in units of 1/16 kbit/s.
+///
+/// `Jitter` has the same shape. One type for both would take a figure and two factors as parameters, and is no plainer.
 #[derive(Clone, Copy, Debug, PartialEq, Eq)]
 pub struct Share {
     pub rate: u32,
@@ -27,12 +29,13 @@ impl Limit for Share {
 
     ghost lowered = { λ l xs ys _ sel low h. still_within (within_share l.rate ys) _ (less_within (reserve xs) _ (16 * l.rate) (reserve_adds.lowers xs ys sel low)) h };
 
+    #[tactic(auto, unfolding(crate::specs::Sums::reserve))]
     fn empty_load(&self) -> u32 {
         0
     }
 
     fn load_with(&self, load: u32, pair: Pair) -> u32 {
-        units_with(load, pair)
+        with_pair::<Units>(load, pair)
     }
 
     fn breach_of(&self, load: u32) -> u32 {
