@@ -3,12 +3,14 @@ use mathlib.Core.List.{List, [], ◌∷◌}
 use Prim.Native.Nat.{ℕ, ◌<◌, ◌∣◌}
 use native.Mathlib.Nat.{dvd_trans, one-dvd}
 use native.Mathlib.Omega.{arith}
+use Rattle.std.proofs.Common.{drop}
 use Rattle.std.specs.List.{AllByRecursion}
-use Rattle.std.proofs.ByRecursion.{All-weaker}
+use Rattle.std.proofs.ByRecursion.{All-weaker, All-drop}
+use Rattle.std.proofs.lemmas.Grind.{common_steps}
 use Rattle.plan.specs.declared.flow.Flow.{Flow}
 use Rattle.plan.specs.Cycle.{lcm, common, LeastCommon}
-use Rattle.plan.specs.Regular.{AllInRange}
-use Rattle.plan.proofs.Gcd.{lcm_left, lcm_right, lcm_least, lcm_pos}
+use Rattle.plan.specs.Regular.{InRange, AllInRange}
+use Rattle.plan.proofs.Gcd.{lcm_above, lcm_assoc, lcm-one_left, lcm-one_right, lcm_left, lcm_right, lcm_least, lcm_pos}
 
 -- every cycle is positive
 abbrev Positive : List Flow → Type 0
@@ -23,6 +25,9 @@ positive fs r = All-weaker _ (λ f. 0 < f.cycle) (λ f e. e.2) fs r
 
 pub common_pos : (fs : List Flow) → AllInRange fs → 0 < common fs
 common_pos fs r = positive_common fs (positive fs r)
+
+pub rest_pos : (fs : List Flow) (i : ℕ) → AllInRange fs → 0 < common (drop i fs)
+rest_pos fs i r = common_pos (drop i fs) (All-drop InRange i fs r)
 
 pub common_divided : (fs : List Flow) → AllByRecursion (λ f. f.cycle ∣ common fs) fs
 common_divided [] = tt
@@ -40,3 +45,6 @@ common_divides fs r = divides_positive fs (positive fs r)
 
 pub common_least : LeastCommon
 common_least fs p = (common_divided fs, divides_positive fs p)
+
+-- what a loop needs that joins the cycles one by one
+pub ruleset joining = (common_steps, lcm_above, lcm_pos, lcm_assoc, lcm-one_left, lcm-one_right, common_pos, rest_pos)

@@ -1,24 +1,20 @@
 -- The message rule in exact fractions and the one in whole numbers are the same.
-use Rattle.std.proofs.Common.{◌≡◌, ℕ, ◌+◌, ◌*◌, ◌/◌, ◌<◌, ◌≤◌, true, List, [], ◌∷◌, map, sym, ap, ◌∙◌, mul-le-mul_right, mul_assoc, mul_comm, add-mul, mul-le-mul_left, mul-pos, one-mul, mul-add, mul_right_comm, le_of_mul-le-mul_right, arith}
+use Rattle.std.proofs.Common.{◌≡◌, ℕ, ◌+◌, ◌*◌, ◌/◌, ◌<◌, ◌≤◌, true, List, [], ◌∷◌, map, ap, mul-le-mul_right, mul-le-mul_left, mul-pos, one-mul, le_of_mul-le-mul_right, arith}
 use Prim.Native.Nat.{◌∣◌}
-use native.Mathlib.Nat.{mul-mul-mul_comm, le_of_mul-le-mul_left, mul-div_cancel'}
+use native.Mathlib.Nat.{le_of_mul-le-mul_left, mul-div_cancel'}
 use Rattle.std.specs.List.{AllByRecursion}
-use Rattle.std.proofs.lemmas.Bool.{leb-true, le-leb}
-use Rattle.std.proofs.lemmas.Bool.Decides.{same_from_decides}
+use Rattle.std.proofs.lemmas.Bool.Decides.{nat_tests}
 use Rattle.plan.specs.declared.flow.Flow.{Flow}
 use Rattle.plan.specs.Regular.{AllInRange}
 use Rattle.plan.specs.Cycle.{common}
 use Rattle.plan.specs.Fraction.{total}
-use Rattle.plan.specs.Message.{frames, rate, meets, sent, meets_whole, Exact}
+use Rattle.plan.specs.Message.{frames, rate, meets, sent, Exact}
 use Rattle.plan.proofs.Common.{common_pos, common_divided}
 use Rattle.plan.proofs.Frames.{sent_falls}
 
 -- one flow more in the sum, where the rest is N / D and sends S in h = p × q milliseconds
 add_one_flow : (n p D N h S q : ℕ) → p * q ≡ h → N * h ≡ D * S → (n * D + N * p) * h ≡ p * D * (n * q + S)
-add_one_flow n p D N h S q e rest =
-    let new : n * D * h ≡ p * D * (n * q) = ap (λ x. n * D * x) (sym e) ∙ mul-mul-mul_comm n D p q ∙ ap (λ x. x * (D * q)) (mul_comm n p) ∙ sym (mul-mul-mul_comm p D n q) in
-    let old : N * p * h ≡ p * D * S = mul_right_comm N p h ∙ ap (λ x. x * p) rest ∙ mul_comm (D * S) p ∙ sym (mul_assoc p D S) in
-    add-mul (n * D) (N * p) h ∙ ap (λ x. x + N * p * h) new ∙ ap (λ x. p * D * (n * q) + x) old ∙ sym (mul-add (p * D) (n * q) S)
+add_one_flow n p D N h S q e rest = omega (arith, ap (λ x. n * D * x) e, ap (λ x. p * x) rest)
 
 module _ (h m : ℕ) where
   den_pos : (fs : List Flow) → AllInRange fs → 0 < (total (map (rate m) fs)).den
@@ -34,30 +30,25 @@ module _ (h m : ℕ) where
 -- N / D is at most 1 / g exactly when g × S is at most h
 module _ (N D S g h : ℕ) (e : N * h ≡ D * S) where
   crossed : N * g * h ≡ D * (g * S)
-  crossed = mul_right_comm N g h ∙ ap (λ x. x * g) e ∙ mul_assoc D S g ∙ ap (λ x. D * x) (mul_comm S g)
-
-  -- the right side of the rule, widened
-  wide : 1 * D * h ≡ D * h
-  wide = ap (λ x. x * h) (one-mul D)
+  crossed = omega (arith, ap (λ x. x * g) e)
 
   to_whole : 0 < D → N * g ≤ 1 * D → g * S ≤ h
-  to_whole pos le = le_of_mul-le-mul_left {k = D} (omega (arith, crossed, wide, mul-le-mul_right h le)) pos
+  to_whole pos le = le_of_mul-le-mul_left {k = D} (omega (arith, crossed, mul-le-mul_right h le)) pos
 
   to_fraction : 0 < h → g * S ≤ h → N * g ≤ 1 * D
-  to_fraction pos le = le_of_mul-le-mul_right {k = h} (omega (arith, crossed, wide, mul-le-mul_left D le)) pos
+  to_fraction pos le = le_of_mul-le-mul_right {k = h} (omega (arith, crossed, mul-le-mul_left D le)) pos
 
 pub exact : (fs : List Flow) → AllInRange fs → Exact fs
 unfolding meets
 exact fs r g m =
     let h = common fs in
     let e = scaled h m fs (common_divided fs) in
-    same_from_decides (meets fs g m) (meets_whole fs g m)
-    (λ t. to_whole _ _ _ g h e (den_pos h m fs r) (leb-true _ _ t), λ le. le-leb _ _ (to_fraction _ _ _ g h e (common_pos fs r) le))
-    (λ t. leb-true _ _ t, λ le. le-leb _ _ le)
+    let whole = to_whole _ _ _ g h e (den_pos h m fs r) in
+    let fraction = to_fraction _ _ _ g h e (common_pos fs r) in
+    grind (arith, nat_tests)
 
 -- what meets the rule at an MTU meets it at a larger one
 pub meets_rises : (fs : List Flow) → AllInRange fs → (g m m' : ℕ) → 0 < m → m ≤ m' → meets fs g m ≡ true → meets fs g m' ≡ true
 meets_rises fs r g m m' pos le t =
-    let here = leb-true _ _ (sym (exact fs r g m) ∙ t) in
     let fewer = mul-le-mul_left g (sent_falls (common fs) m m' fs pos le) in
-    exact fs r g m' ∙ le-leb _ _ (omega arith)
+    grind (arith, nat_tests, t, exact fs r g m, exact fs r g m')

@@ -1,8 +1,9 @@
 -- An accepted call keeps what the standing of every plan keeps.
-use Rattle.std.proofs.Common.{◌≡◌, ℕ, ◌<◌, ◌≤◌, true, false, length, sym, subst, ⊎_elim, le_trans, arith}
+use Rattle.std.proofs.Common.{◌≡◌, ℕ, ◌<◌, ◌≤◌, true, false, eqb, [], ◌∷◌, length, sym, subst, le_trans, arith}
 use Rattle.std.proofs.ByRecursion.{All-weaker, All-push, all_kept_by}
 use Rattle.std.proofs.lemmas.List.{length_push}
-use Rattle.std.proofs.lemmas.Bool.{ne_eqb, leb-true, ltb-true, and_parts, and_from, not-true, cases_eq}
+use Rattle.std.proofs.lemmas.Bool.Decides.{nat_tests}
+use Rattle.std.proofs.lemmas.List.Folds.{list_any-append}
 use Rattle.limits.specs.Range.{within}
 use Rattle.plan.specs.declared.flow.Flow.{Flow}
 use Rattle.plan.specs.Bounds.{max_links, max_flows, max_payload, max_cycle, max_common_cycle}
@@ -14,37 +15,32 @@ use Rattle.plan.specs.Ledger.{answer, effect}
 use Rattle.plan.specs.Sound.{proper, good}
 use Rattle.plan.specs.Standing.{Standing, stands, named, link_of_flow, of_link, flows_of}
 use Rattle.plan.proofs.Amended.{amended_anew}
-use Rattle.plan.proofs.Every.{among_more, single_push}
+use Rattle.plan.proofs.Every.{single_push}
 use Rattle.plan.proofs.Found.{found}
 use Rattle.plan.proofs.Good.{Good, facts_from_good, good_from_facts, all_in_range, link_stands, no_flows}
 use Rattle.plan.proofs.Inserted.{length-insert, all_insert, Up-insert, of_other_link}
 use Rattle.plan.proofs.Removed.{length_without, length-without_found, not_named_without, Up-without, common-without}
-use Rattle.plan.proofs.Steps.{all_yes}
 
 module _ (st : Standing) (g : Good st) where
   keep_link : (n : ℕ) → length st.links < max_links → stands st n ≡ false → Good (effect st (AddLink n))
   keep_link n room new = record {
-    few_links = subst (λ k. k ≤ max_links) (sym (length_push st.links n)) (omega arith);
+    few_links = omega (arith, length_push st.links n);
     few_flows = g.few_flows;
     apart = single_push st.links n g.apart new;
     up = g.up;
     each = All-weaker _ (λ f. proper (effect st (AddLink n)) f ≡ true) (λ f e.
-        let a = and_parts (stands st f.link) _ e in
-        and_from _ _ (among_more st.links f.link n a.0) a.1) st.flows g.each;
+        grind (arith, nat_tests, list_any-append (λ k. eqb k f.link) st.links (n ∷ []))) st.flows g.each;
     short = All-push (λ k. common (flows_of st k) ≤ max_common_cycle) st.links n g.short (rw (no_flows st n g new) (omega arith));
   }
 
   keep_flow : (f : Flow) → length st.flows < max_flows → proper st f ≡ true → named st.flows f.name ≡ false → common (of_link f.link (insert f st.flows)) ≤ max_common_cycle → Good (effect st (AddFlow f.link f.name f.payload f.cycle))
   keep_flow f room p new h = record {
     few_links = g.few_links;
-    few_flows = subst (λ k. k ≤ max_flows) (sym (length-insert f st.flows)) (omega arith);
+    few_flows = omega (arith, length-insert f st.flows);
     apart = g.apart;
     up = Up-insert f st.flows g.up new;
     each = all_insert (λ x. proper st x ≡ true) f st.flows p g.each;
-    short = All-weaker _ (λ k. common (of_link k (insert f st.flows)) ≤ max_common_cycle) (λ k e. ⊎_elim
-        (λ q. subst (λ x. common (of_link x (insert f st.flows)) ≤ max_common_cycle) q h)
-        (λ q. subst (λ l. common l ≤ max_common_cycle) (sym (of_other_link k f st.flows (ne_eqb f.link k q))) e)
-        (cases_eq f.link k)) st.links g.short;
+    short = All-weaker _ (λ k. common (of_link k (insert f st.flows)) ≤ max_common_cycle) (λ k e. grind (arith, nat_tests, h, of_other_link k f st.flows)) st.links g.short;
   }
 
   keep_without : (n : ℕ) → Good (effect st (Withdraw n))
@@ -66,20 +62,15 @@ keep_amended st g n p c h in-payload in-cycle short =
     let room : length (without n fs) < max_flows = omega (arith, length-without_found at, g.few_flows) in
     let link = link_stands st n g h in
     subst Good (λ i. record { links = st.links; flows = sym anew i })
-    (keep_flow (effect st (Withdraw n)) (keep_without st g n) (flow_with (link_of_flow n fs) n p c) room (and_from _ _ link (and_from _ _ in-payload in-cycle)) (not_named_without n fs)
+    (keep_flow (effect st (Withdraw n)) (keep_without st g n) (flow_with (link_of_flow n fs) n p c) room (grind (arith, link, in-payload, in-cycle)) (not_named_without n fs)
     (subst (λ l. common (of_link (link_of_flow n fs) l) ≤ max_common_cycle) anew short))
 
 keep_facts : (st : Standing) (call : Call) → Good st → 0 ≡ answer st call → Good (effect st call)
-keep_facts st (AddLink name) g h =
-    let q = all_yes st (AddLink name) h in
-    keep_link st g name (ltb-true (length st.links) max_links q.0) (not-true _ q.1.0)
+keep_facts st (AddLink name) g h = keep_link st g name (grind (arith, nat_tests)) (grind arith)
 keep_facts st (AddFlow link name payload cycle) g h =
-    let q = all_yes st (AddFlow link name payload cycle) h in
-    keep_flow st g (flow_with link name payload cycle) (ltb-true (length st.flows) max_flows q.1.1.0)
-    (and_from _ _ q.0 (and_from _ _ q.1.1.1.0 q.1.1.1.1.0)) (not-true _ q.1.0) (leb-true _ _ q.1.1.1.1.1.0)
+    keep_flow st g (flow_with link name payload cycle) (grind (arith, nat_tests)) (grind arith) (grind arith) (grind (arith, nat_tests))
 keep_facts st (Amend flow payload cycle) g h =
-    let q = all_yes st (Amend flow payload cycle) h in
-    keep_amended st g flow payload cycle q.0 q.1.0 q.1.1.0 (leb-true _ _ q.1.1.1.0)
+    keep_amended st g flow payload cycle (grind arith) (grind arith) (grind arith) (grind (arith, nat_tests))
 keep_facts st (Withdraw flow) g h = keep_without st g flow
 
 pub keep : (st : Standing) (call : Call) → good st ≡ true → 0 ≡ answer st call → good (effect st call) ≡ true

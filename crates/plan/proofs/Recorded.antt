@@ -1,47 +1,41 @@
--- What the tables record: an accepted call finds room or its row, and leaves sound tables.
-use Rattle.std.proofs.Common.{◌≡◌, ℕ, ◌<◌, ◌≤◌, true, ltb, List, length, take, sym, ap, ◌∙◌, subst, arith}
-use Rattle.std.proofs.lemmas.List.{length-take-le}
-use Rattle.std.proofs.lemmas.Bool.{ltb-true}
+-- What stands after an accepted call: its tables are sound again, and the flow that the call names has its place.
+use Rattle.std.proofs.Common.{◌≡◌, ℕ, ◌<◌, true, List, length, set, get_or, sym, ◌∙◌, subst, arith}
+use Rattle.std.specs.List.{remove, refill}
+use Rattle.std.proofs.lemmas.List.{length-set}
+use Rattle.arrayvec.proofs.ArrayVecLemmas.{items-with_items}
+use Rattle.plan.specs.declared.Plan.{Plan}
+use Rattle.plan.specs.declared.call.Call.{Call}
+use Rattle.plan.specs.declared.call.Call.TheVariants.{Withdraw}
 use Rattle.plan.specs.declared.flow.Flow.{Flow}
 use Rattle.plan.specs.declared.tables.Tables.{Tables}
-use Rattle.plan.specs.Bounds.{max_links, max_flows}
-use Rattle.plan.specs.declared.call.Call.{Call}
-use Rattle.plan.specs.declared.call.Call.TheVariants.{AddLink, AddFlow}
+use Rattle.plan.specs.Edited.{flow_with, without, amended}
+use Rattle.plan.specs.Held.{standing}
 use Rattle.plan.specs.Ledger.{answer, effect}
 use Rattle.plan.specs.Position.{position_of}
-use Rattle.plan.specs.Sound.{recorded, good, Fits, Sound}
-use Rattle.plan.specs.Standing.{Standing, named}
-use Rattle.plan.proofs.Found.{Found, found, found_within}
-use Rattle.plan.proofs.Good.{facts_from_good}
+use Rattle.plan.specs.Sound.{recorded, rising, good, Sound}
+use Rattle.plan.specs.Standing.{named}
+use Rattle.plan.proofs.Amended.{amended_at}
+use Rattle.plan.proofs.Empty.{nil}
+use Rattle.plan.proofs.Every.{Up_from_rising}
+use Rattle.plan.proofs.Found.{found, found_within}
 use Rattle.plan.proofs.Keep.{keep}
-use Rattle.plan.proofs.Steps.{all_yes}
+use Rattle.plan.proofs.Removed.{without_at}
 
--- a table of which fewer than all rows are taken has room
-room : {X : Type 0} (rows : List X) (count most : ℕ) → count ≤ most → length rows ≡ most → ltb (length (take count rows)) most ≡ true → count < most
-room rows count most le long few =
-    let taken = length-take-le count rows (omega arith) in
-    omega (arith, ltb-true (length (take count rows)) most few)
+-- tables that record what an accepted call leaves are sound
+pub still_sound : (plan : Plan) (call : Call) (tables : Tables) → 0 ≡ answer (standing plan) call → recorded tables ≡ effect (standing plan) call → Sound tables
+still_sound plan call tables accepted is = subst (λ s. good s ≡ true) (sym is) (keep (standing plan) call plan.sound accepted)
 
-pub room_for_link : (t : Tables) (name : ℕ) → Fits t → 0 ≡ answer (recorded t) (AddLink name) → t.link_count < max_links
-room_for_link t name fits h = room t.links t.link_count max_links fits.0 fits.2 (all_yes (recorded t) (AddLink name) h).0
+-- the flow of a name stands at the position of that name
+module _ (n : ℕ) (fs : List Flow) (up : rising fs ≡ true) (stands : named fs n ≡ true) where
+  pub position_within : position_of n fs < length fs
+  position_within = found_within (found n fs (Up_from_rising fs up) stands)
 
-pub room_for_flow : (t : Tables) (link name payload cycle : ℕ) → Fits t → 0 ≡ answer (recorded t) (AddFlow link name payload cycle) → t.flow_count < max_flows
-room_for_flow t link name payload cycle fits h =
-    room t.flows t.flow_count max_flows fits.1 fits.3 (all_yes (recorded t) (AddFlow link name payload cycle) h).1.1.0
+  pub removed_there : remove fs (position_of n fs) ≡ without n fs
+  removed_there = without_at (found n fs (Up_from_rising fs up) stands)
 
-pub same_standing : (ks ls : List ℕ) (fs gs : List Flow) → ks ≡ ls → fs ≡ gs → ◌≡◌ {A = Standing} (record { links = ks; flows = fs }) (record { links = ls; flows = gs })
-same_standing ks ls fs gs e h = λ i. record { links = e i; flows = h i }
+  pub amended_there : (p c : ℕ) → refill (length fs) fs (set fs (position_of n fs) (flow_with (get_or fs (position_of n fs) nil).link (get_or fs (position_of n fs) nil).name p c)) ≡ amended n p c fs
+  amended_there p c = items-with_items (record { items = fs }) _ (length-set fs (position_of n fs) _) ∙ amended_at p c (found n fs (Up_from_rising fs up) stands)
 
--- the row that the code found is that of the flow
-pub found_row : (t : Tables) (n at : ℕ) (given : List Flow) → Sound t → given ≡ (recorded t).flows → at ≡ position_of n given → named (recorded t).flows n ≡ true → Found n (recorded t).flows at
-found_row t n at given sound same is h =
-    subst (Found n (recorded t).flows) (sym (is ∙ ap (position_of n) same)) (found n (recorded t).flows (facts_from_good (recorded t) sound.1).up h)
-
-pub row_within : (t : Tables) {n at : ℕ} → Fits t → Found n (recorded t).flows at → at < t.flow_count
-row_within t fits row =
-    let long = length-take-le t.flow_count t.flows (omega (arith, fits.1, fits.3)) in
-    omega (arith, found_within row)
-
--- tables that record what an accepted call leaves are sound again
-pub sound_after : (t t' : Tables) (call : Call) → Sound t → 0 ≡ answer (recorded t) call → Fits t' → recorded t' ≡ effect (recorded t) call → Sound t'
-sound_after t t' call sound h fits is = (fits, subst (λ st. good st ≡ true) (sym is) (keep (recorded t) call sound.1 h))
+-- an accepted withdrawal removes that flow
+pub withdrawn : (plan : Plan) (n : ℕ) {at : ℕ} {flows : List Flow} → 0 ≡ answer (standing plan) (Withdraw n) → at ≡ position_of n plan.tables.flows.items → flows ≡ remove plan.tables.flows.items at → flows ≡ without n plan.tables.flows.items
+withdrawn plan n accepted is e = grind (arith, is, e, plan.sound, removed_there n plan.tables.flows.items)

@@ -1,5 +1,6 @@
--- The refusals of a plan: per case its number and its detail.
-use Rattle.std.specs.Prelude.{ℕ, List, Ok, Err, codes, Result}
+-- The refusals of a plan: per case its number, its detail and its words.
+use Rattle.std.specs.Prelude.{ℕ, List, codes, Result}
+use Rattle.limits.specs.Told.{told_by}
 use Rattle.plan.specs.declared.fault.PlanFault.{PlanFault}
 use Rattle.plan.specs.declared.fault.PlanFault.TheVariants.{TooManyLinks, LinkTaken, UnknownLink, FlowTaken, TooManyFlows, PayloadOutOfRange, CycleOutOfRange, CommonCycleTooLong, UnknownFlow, LinkWithoutFlow}
 
@@ -44,10 +45,8 @@ text LinkWithoutFlow = codes "the link has no flow"
 
 -- what a call told: 0 where it was accepted, else the number of its refusal
 abbrev pub told : {X : Type 0} → Result X PlanFault → ℕ
-told (Ok x) = 0
-told (Err e) = number e
+told r = told_by number r
 
 -- the detail that it told
 abbrev pub told_detail : {X : Type 0} → Result X PlanFault → ℕ
-told_detail (Ok x) = 0
-told_detail (Err e) = detail e
+told_detail r = told_by detail r

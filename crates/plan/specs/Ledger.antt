@@ -1,7 +1,8 @@
 -- The ledger: which questions a call is asked of what stands, what stands afterwards, and what stands after a list of calls.
 -- A call is the code's `Call` (src/call.rt) with its arguments: AddLink name, AddFlow link flow payload cycle,
 -- Amend flow payload cycle, Withdraw flow.
-use Rattle.std.specs.Prelude.{ℕ, Bool, cond, not, List, [], ◌∷◌, ◌++◌, length, fold, ◌==◌, nat_lt}
+use Rattle.std.specs.Prelude.{ℕ, cond, not, List, [], ◌∷◌, ◌++◌, length, fold, ◌==◌, nat_lt}
+use Rattle.limits.specs.Questions.{Questions, first_no}
 use Rattle.limits.specs.Range.{within}
 use Rattle.plan.specs.declared.call.Call.{Call}
 use Rattle.plan.specs.declared.call.Call.TheVariants.{AddLink, AddFlow, Amend, Withdraw}
@@ -18,15 +19,6 @@ effect st (AddFlow link flow payload cycle) =
 effect st (Amend flow payload cycle) =
     record { links = st.links; flows = amended flow payload cycle st.flows }
 effect st (Withdraw flow) = record { links = st.links; flows = without flow st.flows }
-
--- each question's number, and whether it is answered yes
-abbrev pub Questions : Type 0
-Questions = List (ℕ × Bool)
-
--- the number of the first question that is answered no, or 0
-abbrev pub first_no : Questions → ℕ
-first_no [] = 0
-first_no (q ∷ qs) = cond q.1 (first_no qs) q.0
 
 -- the questions that a call is asked, in their order
 abbrev pub questions : Standing → Call → Questions

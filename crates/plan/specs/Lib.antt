@@ -8,7 +8,6 @@ pub mod Standing
 pub mod Edited
 pub mod Ledger
 pub mod Fault
-pub mod Gathered
 pub mod Sound
 pub mod Accepted
 pub mod Laws

@@ -2,10 +2,10 @@
 use Rattle.std.specs.Prelude.{◌≡◌, ℕ, ◌<◌, Bool, true, cond, not, ◌&&◌, List, [], ◌∷◌, length, Some, None, Option, ◌==◌, slice_index, slice_index_or}
 use Rattle.limits.specs.declared.pair.Pair.{Pair}
 use Rattle.limits.specs.Lawful.{lawful}
-use Rattle.limits.specs.Range.{any, first_that}
+use Rattle.limits.specs.Questions.{first_no}
+use Rattle.std.specs.List.{list_any, find}
 use Rattle.plan.specs.declared.flow.Flow.{Flow}
 use Rattle.plan.specs.Candidate.{candidates, LeastAt}
-use Rattle.plan.specs.Ledger.{first_no}
 use Rattle.plan.specs.Message.{meets}
 use Rattle.plan.specs.Standing.{Standing, stands, is_of, flows_of, has_flow}
 
@@ -28,11 +28,11 @@ pairs_written gaps st link before =
 
 -- the link has no flow
 abbrev pub lacks_flow : List Flow → ℕ → Bool
-lacks_flow fs link = not (any (is_of link) fs)
+lacks_flow fs link = not (list_any (is_of link) fs)
 
 -- the first link in plan order that has no flow
 abbrev pub first_without_flow : Standing → Option ℕ
-first_without_flow st = first_that (lacks_flow st.flows) st.links
+first_without_flow st = find (lacks_flow st.flows) st.links
 
 -- a link that stands is served by a lawful pair that meets its message rule
 abbrev pub served : List ℕ → Standing → ℕ → Pair → Bool

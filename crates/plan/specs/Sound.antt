@@ -1,14 +1,15 @@
 -- What the tables of a plan record, and what every plan keeps.
-use Rattle.std.specs.Prelude.{◌≡◌, ℕ, ◌≤◌, Bool, true, not, ◌&&◌, List, [], ◌∷◌, length, take, nat_le, nat_lt}
-use Rattle.limits.specs.Range.{every, within, among}
+use Rattle.std.specs.Prelude.{◌≡◌, ℕ, Bool, true, not, ◌&&◌, List, [], ◌∷◌, length, nat_le, nat_lt}
+use Rattle.limits.specs.Range.{within, among}
+use Rattle.std.specs.List.{list_all}
 use Rattle.plan.specs.declared.flow.Flow.{Flow}
 use Rattle.plan.specs.declared.tables.Tables.{Tables}
 use Rattle.plan.specs.Bounds.{max_links, max_flows, max_payload, max_cycle}
 use Rattle.plan.specs.Standing.{Standing, stands, short_cycle}
 
--- the standing that the tables record: their rows up to the counts
+-- the standing that the tables record
 abbrev pub recorded : Tables → Standing
-recorded t = record { links = take t.link_count t.links; flows = take t.flow_count t.flows }
+recorded t = record { links = t.links.items; flows = t.flows.items }
 
 -- no number comes twice
 abbrev pub single : List ℕ → Bool
@@ -18,7 +19,7 @@ single (x ∷ xs) = not (among xs x) && single xs
 -- the names of the flows rise, so that none comes twice
 abbrev pub rising : List Flow → Bool
 rising [] = true
-rising (f ∷ fs) = every (λ g. nat_lt f.name g.name) fs && rising fs
+rising (f ∷ fs) = list_all (λ g. nat_lt f.name g.name) fs && rising fs
 
 -- the flow's link stands, and its payload and its cycle are in range
 abbrev pub proper : Standing → Flow → Bool
@@ -33,14 +34,8 @@ abbrev pub good : Standing → Bool
 good st =
     few st
     && (single st.links
-    && (rising st.flows && (every (proper st) st.flows && every (short_cycle st) st.links)))
-
--- the counts are within the tables, which have their full lengths
-abbrev pub Fits : Tables → Type 0
-Fits t =
-    (t.link_count ≤ max_links) × (t.flow_count ≤ max_flows)
-    × (length t.links ≡ max_links) × (length t.flows ≡ max_flows)
+    && (rising st.flows && (list_all (proper st) st.flows && list_all (short_cycle st) st.links)))
 
 -- what the tables of every plan keep
 abbrev pub Sound : Tables → Type 0
-Sound t = Fits t × (good (recorded t) ≡ true)
+Sound t = good (recorded t) ≡ true

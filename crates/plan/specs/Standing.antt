@@ -1,6 +1,7 @@
 -- A standing: the links and the flows that a plan holds.
-use Rattle.std.specs.Prelude.{ℕ, Bool, cond, List, [], ◌∷◌, Some, None, filter, Option, ◌==◌, nat_le}
-use Rattle.limits.specs.Range.{any, among}
+use Rattle.std.specs.Prelude.{ℕ, Bool, List, [], Some, None, filter, Option, ◌==◌, nat_le}
+use Rattle.limits.specs.Range.{among}
+use Rattle.std.specs.List.{list_any, find}
 use Rattle.plan.specs.declared.flow.Flow.{Flow}
 use Rattle.plan.specs.Bounds.{max_common_cycle}
 use Rattle.plan.specs.Cycle.{common}
@@ -24,12 +25,11 @@ is_named name f = f.name == name
 
 -- one of the flows has that name
 abbrev pub named : List Flow → ℕ → Bool
-named fs name = any (is_named name) fs
+named fs name = list_any (is_named name) fs
 
 -- the flow of that name, if there is one
 abbrev pub flow_named : ℕ → List Flow → Option Flow
-flow_named name [] = None
-flow_named name (f ∷ fs) = cond (is_named name f) (Some f) (flow_named name fs)
+flow_named name fs = find (is_named name) fs
 
 -- the link of a flow, or 0 for no flow
 abbrev pub link_if : Option Flow → ℕ
@@ -54,7 +54,7 @@ flows_of st link = of_link link st.flows
 
 -- the link has a flow
 abbrev pub has_flow : Standing → ℕ → Bool
-has_flow st link = any (is_of link) st.flows
+has_flow st link = list_any (is_of link) st.flows
 
 -- the common cycle of the link is short enough
 abbrev pub short_cycle : Standing → ℕ → Bool

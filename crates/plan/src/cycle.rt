@@ -6,6 +6,7 @@ ghost use Rattle.plan.specs.Regular.{Regular};
 use crate::flow::Flow;
 
 /// The greatest common divisor by Euclid's rule.
+#[tactic(auto, using(crate::proofs::Gcd::euclid))]
 fn divisor(a: u64, b: u64) -> u64
     ensures { result ≡ gcd a b }
 {
@@ -13,6 +14,7 @@ fn divisor(a: u64, b: u64) -> u64
 }
 
 /// The least common multiple.
+#[tactic(auto, using(crate::proofs::Gcd::gcd_pos), unfolding(crate::specs::Cycle::lcm))]
 pub(crate) fn multiple(a: u64, b: u64) -> u64
     requires { (a ≤ max_common_cycle) × ((0 < b) × (b ≤ max_common_cycle)) }
     ensures { result ≡ lcm a b }
@@ -21,6 +23,7 @@ pub(crate) fn multiple(a: u64, b: u64) -> u64
 }
 
 /// The common cycle of the flows, 1 where there are none.
+#[tactic(auto, using(crate::proofs::Common::joining))]
 pub(crate) fn common_cycle(flows: &[Flow]) -> u64
     requires { Regular flows.now }
     ensures { result ≡ common flows.now }

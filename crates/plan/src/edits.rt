@@ -6,11 +6,12 @@ ghost use Rattle.plan.specs.Ledger.{answer, after};
 ghost use Rattle.plan.specs.Standing.{nothing};
 
 use crate::Plan;
-use crate::bounds::{MAX_FLOWS, MAX_LINKS};
 use crate::fault::PlanFault;
 use crate::flow::Flow;
-use crate::tables::{NO_FLOW, Tables};
+use crate::tables::Tables;
+use arrayvec::ArrayVec;
 
+// The contract of each call says its whole outcome, and so its detail too.
 impl Plan {
     /// A plan with no link and no flow.
     pub fn open() -> Plan
@@ -18,10 +19,8 @@ impl Plan {
     {
         Plan {
             tables: Tables {
-                links: [0; MAX_LINKS],
-                link_count: 0,
-                flows: [NO_FLOW; MAX_FLOWS],
-                flow_count: 0,
+                links: ArrayVec::new(),
+                flows: ArrayVec::new(),
             },
         }
     }
@@ -33,7 +32,7 @@ impl Plan {
         ensures after { standing self.new ≡ after (standing self.old) (AddLink name) }
     {
         self.ask_add_link(name)?;
-        self.tables.push_link(name);
+        self.enter_link(name);
         Ok(())
     }
 
@@ -56,7 +55,7 @@ impl Plan {
             cycle,
         };
         self.ask_add_flow(flow)?;
-        self.tables.put_flow(flow);
+        self.enter_flow(flow);
         Ok(())
     }
 
@@ -67,7 +66,7 @@ impl Plan {
         ensures after { standing self.new ≡ after (standing self.old) (Amend flow payload cycle) }
     {
         self.ask_amend(flow, payload, cycle)?;
-        self.tables.amend_flow(flow, payload, cycle);
+        self.change_flow(flow, payload, cycle);
         Ok(())
     }
 
@@ -78,7 +77,7 @@ impl Plan {
         ensures after { standing self.new ≡ after (standing self.old) (Withdraw flow) }
     {
         self.ask_withdraw(flow)?;
-        self.tables.remove_flow(flow);
+        self.strike_flow(flow);
         Ok(())
     }
 }

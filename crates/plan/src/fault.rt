@@ -6,16 +6,16 @@ use std::fmt;
 /// Why a plan refuses a call.
 #[derive(Clone, Copy, Debug, PartialEq, Eq)]
 pub enum PlanFault {
-    TooManyLinks,
-    LinkTaken,
-    UnknownLink,
-    FlowTaken,
-    TooManyFlows,
-    PayloadOutOfRange,
-    CycleOutOfRange,
-    CommonCycleTooLong,
-    UnknownFlow,
-    LinkWithoutFlow,
+    TooManyLinks = 4,
+    LinkTaken = 5,
+    UnknownLink = 6,
+    FlowTaken = 7,
+    TooManyFlows = 8,
+    PayloadOutOfRange = 9,
+    CycleOutOfRange = 10,
+    CommonCycleTooLong = 11,
+    UnknownFlow = 12,
+    LinkWithoutFlow = 13,
 }
 
 impl PlanFault {
@@ -23,24 +23,14 @@ impl PlanFault {
     pub fn number(self) -> u8
         ensures { result ≡ number self }
     {
-        match self {
-            PlanFault::TooManyLinks => 4,
-            PlanFault::LinkTaken => 5,
-            PlanFault::UnknownLink => 6,
-            PlanFault::FlowTaken => 7,
-            PlanFault::TooManyFlows => 8,
-            PlanFault::PayloadOutOfRange => 9,
-            PlanFault::CycleOutOfRange => 10,
-            PlanFault::CommonCycleTooLong => 11,
-            PlanFault::UnknownFlow => 12,
-            PlanFault::LinkWithoutFlow => 13,
-        }
+        self as u8
     }
 
     /// What the refusal tells beside its number: nothing, so 0.
     pub fn detail(self) -> u32
         ensures { result ≡ detail self }
     {
+        // a table of its own cases, as in every type of refusals: a trait for all would leave the tables, and is no plainer
         match self {
             PlanFault::TooManyLinks
             | PlanFault::LinkTaken
@@ -56,6 +46,7 @@ impl PlanFault {
     }
 
     /// What the refusal says in words.
+    #[tactic(auto, unfolding(crate::specs::Fault::text))]
     fn text(self) -> &'static str
         ensures { result.now ≡ text self }
     {
@@ -74,11 +65,11 @@ impl PlanFault {
     }
 }
 
+// By hand: what a derive writes promises no words.
 impl fmt::Display for PlanFault {
     ghost output = { λ fault. Some (text fault) };
 
     fn fmt<W: fmt::Write>(&self, f: &mut fmt::Formatter<W>) -> fmt::Result {
-        let text = self.text();
-        write!(f, "{text}")
+        f.write_str(self.text())
     }
 }

@@ -10,9 +10,10 @@ pub mod call;
 mod candidate;
 mod cycle;
 mod edits;
+mod entries;
 pub mod fault;
 pub mod flow;
-mod link_cycle;
+mod link;
 mod link_flows;
 mod lookup;
 mod message;
@@ -30,5 +31,6 @@ pub use flow::Flow;
 #[derive(Drop)]
 pub struct Plan {
     tables: Tables,
+    // a field and no model, since callers use it in their proofs, and a model would hide it from them
     ghost sound: { Sound tables },
 }

@@ -1,43 +1,49 @@
-ghost use Rattle.std.specs.Prelude.{◌≡◌, ◌≤◌, length};
-ghost use Rattle.plan.specs.Bounds.{max_flows};
-ghost use Rattle.plan.specs.Gathered.{Gathered, gathered, Gathers};
-ghost use Rattle.plan.specs.Standing.{of_link};
+ghost use Rattle.std.specs.Prelude.{◌≡◌, ◌<◌, ◌≤◌};
+ghost use Rattle.std.proofs.Props.{props};
+ghost use Rattle.plan.specs.Bounds.{max_common_cycle};
+ghost use Rattle.plan.specs.Cycle.{common};
+ghost use Rattle.plan.specs.Edited.{without};
+ghost use Rattle.plan.specs.Regular.{Regular};
 
 use crate::bounds::MAX_FLOWS;
+use crate::cycle::common_cycle;
 use crate::flow::Flow;
-use crate::tables::NO_FLOW;
+use arrayvec::ArrayVec;
 
-/// The flows of one link, side by side.
-#[derive(Clone, Copy)]
+/// The flows of one link, and their common cycle.
+#[derive(Drop)]
 pub(crate) struct LinkFlows {
-    flows: [Flow; MAX_FLOWS],
-    count: usize,
+    pub(crate) flows: ArrayVec<Flow, MAX_FLOWS>,
+    pub(crate) cycle: u64,
+    ghost regular: { Regular flows.items } by { Prim.hlevel props },
+    ghost common: { cycle ≡ common flows.items },
 }
 
 impl LinkFlows {
-    /// The flows of the link among these.
-    pub(crate) fn gather(flows: &[Flow], link: u16) -> LinkFlows
-        requires { length flows.now ≤ max_flows }
-        ensures { Gathers (of_link link flows.now) result }
+    /// These flows, with their common cycle.
+    pub(crate) fn new(flows: ArrayVec<Flow, MAX_FLOWS>) -> LinkFlows
+        requires { Regular flows.items }
+        ensures { result.flows ≡ flows }
     {
-        let mut own = LinkFlows {
-            flows: [NO_FLOW; MAX_FLOWS],
-            count: 0,
-        };
-        for flow in flows {
-            if flow.link == link {
-                own.flows[own.count] = *flow;
-                own.count += 1;
-            }
-        }
-        own
+        let cycle = common_cycle(&flows);
+        LinkFlows { flows, cycle }
     }
 
-    /// The flows that are gathered.
-    pub(crate) fn as_slice(&self) -> &[Flow]
-        requires { Gathered self.now }
-        ensures { result.now ≡ gathered self.now }
+    /// The common cycle.
+    #[tactic(auto, using(crate::proofs::Common::common_pos))]
+    pub(crate) fn cycle(&self) -> u64
+        ensures value { result ≡ common self.now.flows.items }
+        ensures range { (0 < result) × (result ≤ max_common_cycle) }
     {
-        &self.flows[0..self.count]
+        self.cycle
+    }
+
+    /// The flows but the one of that name.
+    pub(crate) fn without(self, name: u16) -> LinkFlows
+        ensures { result.flows.items ≡ without name self.flows.items }
+    {
+        let mut flows = self.flows;
+        flows.retain(|flow| flow.name != name);
+        LinkFlows::new(flows)
     }
 }

@@ -1,38 +1,28 @@
-ghost use Rattle.std.specs.Prelude.{◌≡◌, ℕ, ◌*◌, ◌<◌, ◌≤◌, nat_le};
-ghost use Rattle.plan.specs.Bounds.{max_flows, max_payload, max_common_cycle};
-ghost use Rattle.plan.specs.Cycle.{common};
-ghost use Rattle.plan.specs.Message.{meets, sent, sent_by};
-ghost use Rattle.plan.specs.Regular.{InRange, Regular};
+ghost use Rattle.std.specs.Prelude.{◌≡◌, ◌*◌, ◌<◌, ◌≤◌};
+ghost use Rattle.plan.specs.Bounds.{max_payload, max_common_cycle};
+ghost use Rattle.plan.specs.Message.{meets, sent_by};
+ghost use Rattle.plan.specs.Regular.{InRange};
 
 use crate::flow::Flow;
+use crate::link_flows::LinkFlows;
 
-/// Does the message rule hold at this gap and MTU? The period is the flows' common cycle.
-pub(crate) fn meets_rule(flows: &[Flow], period: u64, gap: u16, mtu: u16) -> bool
-    requires flows { Regular flows.now }
-    requires period { period ≡ common flows.now }
-    requires mtu { 0 < mtu }
-    ensures { result ≡ meets flows.now gap mtu }
-{
-    u64::from(gap) * frames_sent(flows, period, mtu) <= period
-}
-
-/// The frames that the flows send in one common cycle.
-fn frames_sent(flows: &[Flow], period: u64, mtu: u16) -> u64
-    requires flows { Regular flows.now }
-    requires period { period ≡ common flows.now }
-    requires mtu { 0 < mtu }
-    ensures value { result ≡ sent period mtu flows.now }
-    ensures bound { result ≤ max_flows * (max_payload * max_common_cycle) }
-    ensures rule { (g : ℕ) → nat_le (g * result) period ≡ meets flows.now g mtu }
-{
-    let mut frames = 0;
-    for flow in flows {
-        frames += frames_of(*flow, period, mtu);
+impl LinkFlows {
+    /// Does the message rule hold at this gap and MTU? In one common cycle every frame has to have its gap.
+    #[tactic(auto, using(std::proofs::lemmas::Grind::common_steps, crate::proofs::Exact::exact))]
+    pub(crate) fn meets_rule(&self, gap: u16, mtu: u16) -> bool
+        requires { 0 < mtu }
+        ensures { result ≡ meets self.now.flows.items gap mtu }
+    {
+        let mut frames = 0;
+        for flow in self.flows.as_slice() {
+            frames += frames_of(*flow, self.cycle, mtu);
+        }
+        u64::from(gap) * frames <= self.cycle
     }
-    frames
 }
 
 /// The frames that one flow sends in the period.
+#[tactic(auto, using(crate::proofs::Frames::sent_by_bound), unfolding(crate::specs::Message::frames))]
 fn frames_of(flow: Flow, period: u64, mtu: u16) -> u64
     requires flow { InRange flow }
     requires period { period ≤ max_common_cycle }

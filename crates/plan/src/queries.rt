@@ -10,20 +10,18 @@ ghost use Rattle.plan.specs.Sound.{good};
 ghost use Rattle.plan.specs.Standing.{flows_of};
 
 use crate::Plan;
-use crate::candidate::write_candidates;
 use crate::fault::PlanFault;
 use crate::flow::Flow;
-use crate::link_flows::LinkFlows;
-use crate::lookup::{has_flow_of, has_link};
 use limits::{GAP_COUNT, Pair};
 
+// The contract of each call says its whole outcome, and so its detail too.
 impl Plan {
     /// The names of the links, in plan order.
     pub fn links(&self) -> &[u16]
         ensures shown { result.now ≡ (standing self.now).links }
         ensures kept { good (standing self.now) ≡ true }
     {
-        self.tables.links()
+        &self.tables.links
     }
 
     /// The flows, in rising name.
@@ -31,10 +29,11 @@ impl Plan {
         ensures shown { result.now ≡ (standing self.now).flows }
         ensures kept { good (standing self.now) ≡ true }
     {
-        self.tables.flows()
+        &self.tables.flows
     }
 
     /// The common cycle of a link in milliseconds, 1 where it has no flow.
+    #[tactic(auto, using(crate::proofs::Common::common_least, crate::proofs::Gcd::euclid))]
     pub fn common_cycle(&self, link: u16) -> Result<u64, PlanFault>
         ensures number { told result ≡ cycle_answer (standing self.now) link }
         ensures detail { told_detail result ≡ 0 }
@@ -42,10 +41,10 @@ impl Plan {
         ensures least { told result ≡ 0 → LeastCommon }
         ensures euclid { told result ≡ 0 → Euclid }
     {
-        if !has_link(self.links(), link) {
+        if !self.has_link(link) {
             return Err(PlanFault::UnknownLink);
         }
-        Ok(self.tables.cycle_of(link))
+        Ok(self.flows_of(link).cycle())
     }
 
     /// Writes the candidate of the link at each gap into the lent place, in rising gap.
@@ -66,22 +65,23 @@ impl Plan {
     fn ask_pairs(&self, link: u16) -> Result<(), PlanFault>
         ensures { told result ≡ pairs_answer (standing self.now) link }
     {
-        if !has_link(self.links(), link) {
+        if !self.has_link(link) {
             return Err(PlanFault::UnknownLink);
         }
-        if !has_flow_of(self.flows(), link) {
+        if !self.has_flow_of(link) {
             return Err(PlanFault::LinkWithoutFlow);
         }
         Ok(())
     }
 
     /// Writes the candidates of a link.
+    #[tactic(auto, using(crate::proofs::Exact::exact, crate::proofs::Frames::frames_enough, crate::proofs::Frames::frames_fewest))]
     fn write_pairs(&self, link: u16, place: &mut [Option<Pair>; GAP_COUNT])
         ensures written { place.new ≡ candidates eight_gaps (flows_of (standing self.now) link) }
         ensures least { AllLeast eight_gaps (flows_of (standing self.now) link) place.new }
         ensures exact { Exact (flows_of (standing self.now) link) }
         ensures frames { JustEnough }
     {
-        write_candidates(LinkFlows::gather(self.flows(), link).as_slice(), place);
+        *place = self.flows_of(link).candidates();
     }
 }

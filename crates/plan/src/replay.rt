@@ -8,6 +8,7 @@ use crate::Plan;
 use crate::call::Call;
 use crate::fault::PlanFault;
 
+// The contract of each call says its whole outcome, and so its detail too.
 impl Plan {
     /// Performs the call.
     pub fn perform(&mut self, call: Call) -> Result<(), PlanFault>
@@ -49,6 +50,7 @@ impl Plan {
     }
 
     /// Performs the calls, one after the other, whatever is refused.
+    #[tactic(auto, using(crate::proofs::Replayed::laws))]
     fn perform_all(&mut self, calls: &[Call])
         ensures after { standing self.new ≡ fold after (standing self.old) calls.now }
         ensures refusal { RefusalChangesNothing }

@@ -1,16 +1,9 @@
 ghost use Rattle.std.specs.Prelude.{◌≡◌};
 ghost use Rattle.limits.specs.Gaps.{eight_gaps};
-ghost use Rattle.limits.specs.Selection.{Lawful};
 ghost use Rattle.plan.specs.Held.{standing};
-ghost use Rattle.plan.specs.Message.{meets};
 ghost use Rattle.plan.specs.Queries.{first_without_flow, served};
-ghost use Rattle.plan.specs.Standing.{flows_of};
 
 use crate::Plan;
-use crate::cycle::common_cycle;
-use crate::link_flows::LinkFlows;
-use crate::lookup::{first_without_flow, has_link};
-use crate::message::meets_rule;
 use limits::Pair;
 
 impl Plan {
@@ -18,23 +11,18 @@ impl Plan {
     pub fn first_without_flow(&self) -> Option<u16>
         ensures { result ≡ first_without_flow (standing self.now) }
     {
-        first_without_flow(self.links(), self.flows())
+        self.links()
+            .iter()
+            .copied()
+            .find(|link| !self.has_flow_of(*link))
     }
 
     /// Does the link stand, is the pair lawful, and does it meet the link's message rule?
     pub fn is_served(&self, link: u16, pair: Pair) -> bool
         ensures { result ≡ served eight_gaps (standing self.now) link pair }
     {
-        has_link(self.links(), link) && pair.is_lawful() && self.meets_rule(link, pair)
-    }
-
-    /// Does the pair meet the message rule of the link?
-    fn meets_rule(&self, link: u16, pair: Pair) -> bool
-        requires { Lawful pair }
-        ensures { result ≡ meets (flows_of (standing self.now) link) pair.gap pair.mtu }
-    {
-        let own = LinkFlows::gather(self.flows(), link);
-        let flows = own.as_slice();
-        meets_rule(flows, common_cycle(flows), pair.gap, pair.mtu)
+        self.has_link(link)
+            && pair.is_lawful()
+            && self.flows_of(link).meets_rule(pair.gap, pair.mtu)
     }
 }
