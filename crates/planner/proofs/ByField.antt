@@ -1,11 +1,13 @@
 -- What a setting at a port is told, by the rules of the field.
-use Rattle.std.proofs.Common.{◌≡◌, ℕ, suc, Bool, true, false, cond, not, ◌&&◌, eqb, List, [], ◌∷◌, is_some, Some, None, Option, sym, refl, ap, ◌∙◌}
-use Rattle.std.specs.Option.{option_map}
+use Rattle.std.proofs.Common.{◌≡◌, ℕ, Bool, true, false, cond, ◌&&◌, eqb, List, [], ◌∷◌, Some, None, Option, sym, refl, ap, ◌∙◌}
+use Rattle.std.specs.Option.{is_none}
+use Rattle.std.proofs.Math.Bool.{and-true, and_comm, and_assoc}
 use Rattle.std.proofs.lemmas.Bool.{true≢false}
 use Rattle.limits.specs.declared.port.Port.{Port}
 use Rattle.limits.specs.Gaps.{eight_gaps}
 use Rattle.limits.specs.Port.{port_breach}
-use Rattle.limits.specs.Range.{every, among}
+use Rattle.limits.specs.Range.{among}
+use Rattle.std.specs.List.{list_all}
 use Rattle.limits.specs.Rules.{above_floor, within_share, within_jitter}
 use Rattle.limits.specs.Selection.{Selection}
 use Rattle.limits.proofs.Both.{admits_by_rules}
@@ -17,6 +19,7 @@ use Rattle.planner.specs.Asked.{told_or, refusal, first_failing}
 use Rattle.planner.specs.Field.{bandwidth_kept, jitter_kept, JudgedByField}
 use Rattle.planner.specs.Setting.{pairs, name_links, gap_lawful, mtu_lawful, messages_served, plainly, if_any, setting_questions}
 use Rattle.planner.proofs.Fractions.{bandwidth_exact, jitter_exact}
+use Rattle.planner.proofs.Failing.{every_passes}
 use Rattle.planner.proofs.Lawful.{lawful_selection}
 
 -- ---- what is told of the first questions
@@ -31,47 +34,24 @@ unfailed n rest (Some d) is h = absurd (true≢false (sym is ∙ h))
 
 named_from_plainly : (b : Bool) → None ≡ plainly b → b ≡ true
 named_from_plainly true e = refl
-named_from_plainly false e = absurd (true≢false (ap (λ o. not (is_some o)) e))
+named_from_plainly false e = absurd (true≢false (ap is_none e))
 
 -- ---- when 0 is told
--- nothing fails
-abbrev none_fails : Option ℕ → Bool
-none_fails o = not (is_some o)
-
-zero_told : (n : ℕ) (rest : ℕ × ℕ) (o : Option ℕ) → eqb n 0 ≡ false → eqb (told_or n rest o).0 0 ≡ (none_fails o && eqb rest.0 0)
+zero_told : (n : ℕ) (rest : ℕ × ℕ) (o : Option ℕ) → eqb n 0 ≡ false → eqb (told_or n rest o).0 0 ≡ (is_none o && eqb rest.0 0)
 zero_told n rest None ne = refl
 zero_told n rest (Some d) ne = ne
 
-none_mapped : (o : Option ℕ) → none_fails (option_map suc o) ≡ none_fails o
-none_mapped None = refl
-none_mapped (Some n) = refl
-
-every_passes : {X : Type 0} (test : X → Bool) (xs : List X) → none_fails (first_failing test xs) ≡ every test xs
-every_passes test [] = refl
-every_passes test (x ∷ xs) =
-    elim (test x) as (λ b. none_fails (cond b (option_map suc (first_failing test xs)) (Some 1)) ≡ (b && every test xs)) [
-      | true ↦ none_mapped (first_failing test xs) ∙ every_passes test xs
-      | false ↦ refl
-    ]
-
-no_breach : (b : ℕ) → none_fails (if_any b) ≡ eqb b 0
-no_breach b = elim (eqb b 0) as (λ t. none_fails (cond t None (Some b)) ≡ t) [ true ↦ refl | false ↦ refl ]
-
-and-true : (b : Bool) → (b && true) ≡ b
-and-true true = refl
-and-true false = refl
+no_breach : (b : ℕ) → is_none (if_any b) ≡ eqb b 0
+no_breach b = elim (eqb b 0) as (λ t. is_none (cond t None (Some b)) ≡ t) [ true ↦ refl | false ↦ refl ]
 
 floor_last : (floor share jitter : Bool) → (floor && (share && jitter)) ≡ (share && (jitter && floor))
-floor_last true share jitter = ap (λ b. share && b) (sym (and-true jitter))
-floor_last false true true = refl
-floor_last false true false = refl
-floor_last false false jitter = refl
+floor_last floor share jitter = and_comm floor (share && jitter) ∙ and_assoc share jitter floor
 
 module _ (port : Port) (st : Standing) (rows : List Row) (sound : good st ≡ true) where
   abbrev last_two : ℕ × ℕ
   last_two = refusal ((22, first_failing (messages_served st) rows) ∷ (23, if_any (port_breach port (pairs rows))) ∷ [])
 
-  by_rules : eqb last_two.0 0 ≡ (every (messages_served st) rows && eqb (port_breach port (pairs rows)) 0)
+  by_rules : eqb last_two.0 0 ≡ (list_all (messages_served st) rows && eqb (port_breach port (pairs rows)) 0)
   by_rules =
       zero_told 22 _ (first_failing (messages_served st) rows) refl
       ∙ (λ i. every_passes (messages_served st) rows i && (zero_told 23 (0, 0) (if_any (port_breach port (pairs rows))) refl ∙ and-true _ ∙ no_breach (port_breach port (pairs rows))) i)
@@ -90,6 +70,6 @@ module _ (port : Port) (st : Standing) (rows : List Row) (sound : good st ≡ tr
       let names = unfailed 19 _ (plainly (name_links st.links rows)) refl flows.1 in
       let gaps = unfailed 20 _ (first_failing (gap_lawful eight_gaps) rows) refl names.1 in
       let mtus = unfailed 21 _ (first_failing mtu_lawful rows) refl gaps.1 in
-      let sel = lawful_selection st rows sound (named_from_plainly _ names.0) gaps.0 mtus.0 in
+      let sel = lawful_selection (record { sound = sound; named = named_from_plainly _ names.0; gaps = gaps.0; mtus = mtus.0 }) in
       ap (λ t. eqb t.0 0) (sym (λ i. told_or 13 (told_or 19 (told_or 20 (told_or 21 last_two (mtus.0 i)) (gaps.0 i)) (names.0 i)) (flows.0 i)))
-      ∙ by_rules ∙ ap (λ b. every (messages_served st) rows && b) (in_fractions sel)
+      ∙ by_rules ∙ ap (λ b. list_all (messages_served st) rows && b) (in_fractions sel)

@@ -1,5 +1,4 @@
 pub mod Failing
-pub mod Told
 pub mod Names
 pub mod Lawful
 pub mod Fractions

@@ -3,7 +3,8 @@ use Rattle.std.specs.Prelude.{◌≡◌, ℕ, ◌*◌, Bool, false, ◌&&◌, Li
 use Rattle.limits.specs.declared.pair.Pair.{Pair}
 use Rattle.limits.specs.declared.port.Port.{Port}
 use Rattle.limits.specs.Frame.{frame}
-use Rattle.limits.specs.Range.{every, among}
+use Rattle.limits.specs.Range.{among}
+use Rattle.std.specs.List.{list_all}
 use Rattle.limits.specs.Rules.{above_floor}
 use Rattle.limits.specs.Sums.{burst_bytes}
 use Rattle.plan.specs.Fraction.{Fraction, over, plus, total, at_most}
@@ -30,7 +31,7 @@ jitter_kept rate s = at_most (plus (over 40 1000000) (over (8 * burst_bytes s) (
 -- the message rule of every link, the bandwidth, the jitter and the floor are kept
 abbrev pub field_rules : Port → Standing → List Row → Bool
 field_rules port st rows =
-    every (messages_served st) rows
+    list_all (messages_served st) rows
     && (bandwidth_kept port.share (pairs rows)
     && (jitter_kept port.rate (pairs rows) && above_floor port.floor (pairs rows)))
 

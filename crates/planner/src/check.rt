@@ -1,15 +1,16 @@
-ghost use Rattle.std.specs.Prelude.{◌≡◌, true};
+ghost use Rattle.std.specs.Prelude.{◌≡◌, ◌≤◌, true, length};
 ghost use Rattle.limits.specs.Gaps.{eight_gaps};
-ghost use Rattle.limits.specs.Selection.{Selection};
+ghost use Rattle.limits.specs.Selection.{Selection, max_pairs};
 ghost use Rattle.plan.specs.Held.{standing};
 ghost use Rattle.planner.specs.Asked.{refusal};
-ghost use Rattle.planner.specs.Setting.{pairs, name_links, row_questions, setting_questions};
+ghost use Rattle.planner.specs.Setting.{pairs, name_links, if_any, row_questions, setting_questions};
 ghost use Rattle.planner.specs.SettingFault.{told};
 
+use crate::first_failing::first_failing;
 use crate::row::Row;
-use crate::row_rule::{LawfulGap, LawfulMtu, Served, first_breaking};
 use crate::setting_fault::SettingFault;
-use limits::Limit;
+use arrayvec::ArrayVec;
+use limits::{Limit, MAX_PAIRS, Pair, breach_of_pairs};
 use plan::Plan;
 
 /// Checks a setting made elsewhere under any limit. It is accepted exactly when every question is answered yes.
@@ -30,17 +31,16 @@ fn check_rows<L: Limit>(plan: &Plan, limit: &L, rows: &[Row]) -> Result<(), Sett
     requires { name_links (standing plan.now).links rows.now ≡ true }
     ensures { told result ≡ refusal (row_questions eight_gaps (L.breach limit.now) (standing plan.now) rows.now) }
 {
-    if let Some(row) = first_breaking(&LawfulGap, rows) {
+    if let Some(row) = first_failing(rows, |row| row.pair.has_lawful_gap()) {
         return Err(SettingFault::GapUnlawful { row });
     }
-    if let Some(row) = first_breaking(&LawfulMtu, rows) {
+    if let Some(row) = first_failing(rows, |row| row.pair.has_lawful_mtu()) {
         return Err(SettingFault::MtuUnlawful { row });
     }
-    if let Some(row) = first_breaking(&Served { plan }, rows) {
+    if let Some(row) = first_failing(rows, |row| plan.is_served(row.link, row.pair)) {
         return Err(SettingFault::MessagesUnserved { row });
     }
-    let breach = breach_of_rows(limit, rows);
-    if breach != 0 {
+    if let Some(breach) = breach_of_rows(limit, rows) {
         return Err(SettingFault::NotWithin { breach });
     }
     Ok(())
@@ -50,25 +50,25 @@ fn check_rows<L: Limit>(plan: &Plan, limit: &L, rows: &[Row]) -> Result<(), Sett
 fn name_links(links: &[u16], rows: &[Row]) -> bool
     ensures { result ≡ name_links links.now rows.now }
 {
-    if links.len() != rows.len() {
-        return false;
-    }
-    for (i, row) in rows.iter().enumerate() {
-        if row.link != links[i] {
-            return false;
-        }
-    }
-    true
+    links.len() == rows.len() && links.iter().zip(rows).all(|(link, row)| row.link == *link)
 }
 
-/// The breach of the pairs of the rows.
-fn breach_of_rows<L: Limit>(limit: &L, rows: &[Row]) -> u32
+/// The breach of the pairs of the rows, if there is one.
+fn breach_of_rows<L: Limit>(limit: &L, rows: &[Row]) -> Option<u32>
     requires { Selection (pairs rows.now) }
-    ensures { result ≡ L.breach limit.now (pairs rows.now) }
+    ensures { result ≡ if_any (L.breach limit.now (pairs rows.now)) }
 {
-    let mut load = limit.empty_load();
+    breach_of_pairs(limit, &pairs_of(rows)).filter(|breach| *breach != 0)
+}
+
+/// The pairs of the rows.
+fn pairs_of(rows: &[Row]) -> ArrayVec<Pair, MAX_PAIRS>
+    requires { length rows.now ≤ max_pairs }
+    ensures { result.items ≡ pairs rows.now }
+{
+    let mut pairs = ArrayVec::new();
     for row in rows {
-        load = limit.load_with(load, row.pair);
+        pairs.push(row.pair);
     }
-    limit.breach_of(load)
+    pairs
 }

@@ -2,9 +2,9 @@
 #![tactic(auto)]
 
 mod check;
+mod first_failing;
 mod port_check;
 pub mod row;
-mod row_rule;
 pub mod setting_fault;
 
 pub use check::check_setting;

@@ -1,6 +1,6 @@
 ghost use Rattle.std.specs.Prelude.{◌≡◌};
 ghost use Rattle.limits.specs.Gaps.{eight_gaps};
-ghost use Rattle.limits.specs.Port.{port_limit, port_breach};
+ghost use Rattle.limits.specs.Port.{port_breach};
 ghost use Rattle.plan.specs.Held.{standing};
 ghost use Rattle.planner.specs.Asked.{refusal};
 ghost use Rattle.planner.specs.Field.{JudgedByField};
@@ -10,7 +10,7 @@ ghost use Rattle.planner.specs.SettingFault.{told};
 use crate::check::check_setting;
 use crate::row::Row;
 use crate::setting_fault::SettingFault;
-use limits::{Port, PortLimit};
+use limits::Port;
 use plan::Plan;
 
 /// Checks a setting made elsewhere under the port's own limit.
@@ -18,14 +18,5 @@ pub fn check_port_setting(plan: &Plan, port: Port, rows: &[Row]) -> Result<(), S
     ensures told { told result ≡ refusal (setting_questions eight_gaps (port_breach port) (standing plan.now) rows.now) }
     ensures field { JudgedByField port (standing plan.now) rows.now (told result) }
 {
-    check_at(plan, port, &port.limit(), rows)
-}
-
-/// Checks a setting under the limit of the port.
-fn check_at(plan: &Plan, port: Port, limit: &PortLimit, rows: &[Row]) -> Result<(), SettingFault>
-    requires { limit.now ≡ port_limit port }
-    ensures told { told result ≡ refusal (setting_questions eight_gaps (port_breach port) (standing plan.now) rows.now) }
-    ensures field { JudgedByField port (standing plan.now) rows.now (told result) }
-{
-    check_setting(plan, limit, rows)
+    check_setting(plan, &port.limit(), rows)
 }

@@ -19,6 +19,7 @@ impl SettingFault {
     pub fn number(self) -> u8
         ensures { result ≡ number self }
     {
+        // a match: a case that carries a value has no number of its own in the language
         match self {
             SettingFault::LinkWithoutFlow { .. } => 13,
             SettingFault::RowsNotTheLinks => 19,
@@ -33,6 +34,7 @@ impl SettingFault {
     pub fn detail(self) -> u32
         ensures { result ≡ detail self }
     {
+        // a table of its own cases, as in every type of refusals: a trait for all would leave the tables, and is no plainer
         match self {
             SettingFault::LinkWithoutFlow { link } => u32::from(link),
             SettingFault::RowsNotTheLinks => 0,
@@ -44,6 +46,7 @@ impl SettingFault {
     }
 
     /// What the refusal says in words.
+    #[tactic(auto, unfolding(crate::specs::SettingFault::text))]
     fn text(self) -> &'static str
         ensures { result.now ≡ text self }
     {
@@ -60,11 +63,11 @@ impl SettingFault {
     }
 }
 
+// By hand: what a derive writes promises no words.
 impl fmt::Display for SettingFault {
     ghost output = { λ fault. Some (text fault) };
 
     fn fmt<W: fmt::Write>(&self, f: &mut fmt::Formatter<W>) -> fmt::Result {
-        let text = self.text();
-        write!(f, "{text}")
+        f.write_str(self.text())
     }
 }

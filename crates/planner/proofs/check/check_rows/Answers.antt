@@ -1,31 +1,38 @@
+use Rattle.std.proofs.Common.{rules, ◌≡◌, None, Some, refl}
+use Rattle.limits.specs.Gaps.{eight_gaps}
 use Rattle.plan.specs.Held.{standing}
-use Rattle.planner.proofs.Lawful.{few_rows, lawful_selection, message_refused, limit_refused, accepted}
+use Rattle.planner.specs.Asked.{first_failing}
+use Rattle.planner.specs.Setting.{gap_lawful, mtu_lawful}
+use Rattle.planner.proofs.Lawful.{LawfulRows, few_rows, lawful_selection, told_in_turn}
+use Rattle.planner.proofs.check.check_rows.Goals.{In_default-first_failing}
 use Rattle.planner.proofs.check.check_rows.Goals as goal
 
-pub first_breaking-requires : goal.first_breaking-requires
-first_breaking-requires g c = few_rows (standing c.args.plan.now) c.args.rows.now c.args.plan.now.sound.1 c.requires
+lawful_rows : (g : _) (c : In_default-first_failing g) → LawfulRows (standing c.args.plan.now) c.args.rows.now
+lawful_rows g c = record { sound = c.args.plan.now.sound; named = c.requires; gaps = search rules; mtus = search rules }
 
-pub first_breaking-requires-2 : goal.first_breaking-requires-2
-first_breaking-requires-2 g c = few_rows (standing c.args.plan.now) c.args.rows.now c.args.plan.now.sound.1 c.requires
+pub first_failing-requires-clause-few : goal.first_failing-requires-clause-few
+first_failing-requires-clause-few g c = search (rules, few_rows)
 
-pub first_breaking-requires-3 : goal.first_breaking-requires-3
-first_breaking-requires-3 g c = few_rows (standing c.args.plan.now) c.args.rows.now c.args.plan.now.sound.1 c.requires
+pub first_failing-requires-2-clause-few : goal.first_failing-requires-2-clause-few
+first_failing-requires-2-clause-few g c = search (rules, few_rows)
 
-pub breach_of_rows-breach-requires : goal.breach_of_rows-breach-requires
-breach_of_rows-breach-requires g c =
-    lawful_selection (standing c.args.plan.now) c.args.rows.now c.args.plan.now.sound.1 c.requires c.in_default.ensures c.in_default-first_breaking.ensures
+pub returns-in-Some-first_failing : goal.returns-in-Some-first_failing
+returns-in-Some-first_failing g c =
+    let gaps : None ≡ first_failing (gap_lawful eight_gaps) c.args.rows.now = search rules in
+    let mtus : Some c.in-Some-first_failing.row ≡ first_failing mtu_lawful c.args.rows.now = search rules in
+    rw (← gaps, ← mtus) refl
 
-pub returns-in-Some-first_breaking-2 : goal.returns-in-Some-first_breaking-2
-returns-in-Some-first_breaking-2 g c =
-    message_refused (standing c.args.plan.now) c.args.rows.now c.args.plan.now.sound.1 c.requires c.in_default.ensures c.in_default-first_breaking.ensures
-    (g.L.Limit.breach c.args.limit.now) c.in-Some-first_breaking-2.row c.in-Some-first_breaking-2.ensures
+pub first_failing-requires-3-clause-few : goal.first_failing-requires-3-clause-few
+first_failing-requires-3-clause-few g c = search (rules, few_rows)
 
-pub returns-then-breach-ne0 : goal.returns-then-breach-ne0
-returns-then-breach-ne0 g c =
-    limit_refused (standing c.args.plan.now) c.args.rows.now c.args.plan.now.sound.1 c.requires c.in_default.ensures c.in_default-first_breaking.ensures
-    (g.L.Limit.breach c.args.limit.now) c.in_default-first_breaking-2.ensures c.breach_of_rows-breach.result c.breach_of_rows-breach.ensures c.if-breach-ne0.true
+pub returns-in-Some-first_failing-2 : goal.returns-in-Some-first_failing-2
+returns-in-Some-first_failing-2 g c = told_in_turn (lawful_rows g (goal.at.returns-in-Some-first_failing-2 g c).In_default-first_failing) (g.L.Limit.breach c.args.limit.now) (Some c.in-Some-first_failing-2.row) _ (search rules) refl
+
+pub breach_of_rows-requires : goal.breach_of_rows-requires
+breach_of_rows-requires g c = lawful_selection (lawful_rows g (goal.at.breach_of_rows-requires g c).In_default-first_failing)
+
+pub returns-in-Some-breach_of_rows : goal.returns-in-Some-breach_of_rows
+returns-in-Some-breach_of_rows g c = told_in_turn (lawful_rows g (goal.at.returns-in-Some-breach_of_rows g c).In_default-first_failing) (g.L.Limit.breach c.args.limit.now) None (Some c.in-Some-breach_of_rows.breach) (search rules) (search rules)
 
 pub returns : goal.returns
-returns g c =
-    accepted (standing c.args.plan.now) c.args.rows.now c.args.plan.now.sound.1 c.requires c.in_default.ensures c.in_default-first_breaking.ensures
-    (g.L.Limit.breach c.args.limit.now) c.in_default-first_breaking-2.ensures c.breach_of_rows-breach.result c.breach_of_rows-breach.ensures c.if-breach-ne0.false
+returns g c = told_in_turn (lawful_rows g (goal.at.returns g c).In_default-first_failing) (g.L.Limit.breach c.args.limit.now) None None (search rules) (search rules)
