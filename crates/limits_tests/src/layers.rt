@@ -1,4 +1,3 @@
-ghost use Rattle.std.specs.Prelude.{◌≡◌, ℕ, List, [], ◌∷◌, ◌++◌};
 ghost use Rattle.std.proofs.Common.{rules};
 
 use limits::{Floor, Jitter, Layer, Limit, Open, Pair, PortLimit, Share, breach_of_pairs};

@@ -1,58 +1,43 @@
 use limits::{Burst, BurstTotal, Measure, Pair, Reserve, total_of_pairs};
 
-const SHORT_GAPS: [Pair; 2] = [Pair { gap: 1, mtu: 5 }, Pair { gap: 1, mtu: 7 }];
+const SHORT_GAPS: &[Pair] = &[Pair { gap: 1, mtu: 5 }, Pair { gap: 1, mtu: 7 }];
 
-const LONGER_GAP: [Pair; 2] = [Pair { gap: 2, mtu: 9 }, Pair { gap: 1, mtu: 7 }];
+const LONGER_GAP: &[Pair] = &[Pair { gap: 2, mtu: 9 }, Pair { gap: 1, mtu: 7 }];
 
-const LONG_GAPS: [Pair; 2] = [Pair { gap: 16, mtu: 67 }, Pair { gap: 32, mtu: 250 }];
+const LONG_GAPS: &[Pair] = &[Pair { gap: 16, mtu: 67 }, Pair { gap: 32, mtu: 250 }];
 
 #[test]
 fn totals_of_reserve(rt: HostRuntime) {
-    assert_eq!(rt; total_of_pairs(&Reserve, &[]), Some(0));
-    assert_eq!(rt; total_of_pairs(&Reserve, &SHORT_GAPS), Some(18_688));
-    assert_eq!(rt; total_of_pairs(&Reserve, &LONGER_GAP), Some(14_336));
-    assert_eq!(rt; total_of_pairs(&Reserve, &LONG_GAPS), Some(2340));
-    assert_eq!(rt;
-        total_of_pairs(&Reserve, &[Pair { gap: 4, mtu: 100 }]),
-        Some(5344)
-    );
-    assert_eq!(rt;
-        total_of_pairs(&Reserve, &[Pair { gap: 2, mtu: 40 }]),
-        Some(6848)
-    );
-    assert_eq!(rt;
-        total_of_pairs(&Reserve, &[Pair { gap: 1, mtu: 17 }]),
-        Some(10_752)
-    );
+    let totals: [(&[Pair], u32); 7] = [
+        (&[], 0),
+        (SHORT_GAPS, 18_688),
+        (LONGER_GAP, 14_336),
+        (LONG_GAPS, 2340),
+        (&[Pair { gap: 4, mtu: 100 }], 5344),
+        (&[Pair { gap: 2, mtu: 40 }], 6848),
+        (&[Pair { gap: 1, mtu: 17 }], 10_752),
+    ];
+    for (pairs, units) in totals {
+        assert_eq!(rt;
+            total_of_pairs(&Reserve, pairs),
+            Some(units),
+            "of {pairs:?}"
+        );
+    }
 }
 
 #[test]
 fn totals_of_burst(rt: HostRuntime) {
-    assert_eq!(rt;
-        total_of_pairs(&Burst, &[]),
-        Some(BurstTotal { bytes: 0, units: 0 })
-    );
-    assert_eq!(rt;
-        total_of_pairs(&Burst, &SHORT_GAPS),
-        Some(BurstTotal {
-            bytes: 146,
-            units: 18_688,
-        })
-    );
-    assert_eq!(rt;
-        total_of_pairs(&Burst, &LONGER_GAP),
-        Some(BurstTotal {
-            bytes: 150,
-            units: 14_336,
-        })
-    );
-    assert_eq!(rt;
-        total_of_pairs(&Burst, &LONG_GAPS),
-        Some(BurstTotal {
-            bytes: 451,
-            units: 2340,
-        })
-    );
+    let totals: [(&[Pair], u32, u32); 4] = [
+        (&[], 0, 0),
+        (SHORT_GAPS, 146, 18_688),
+        (LONGER_GAP, 150, 14_336),
+        (LONG_GAPS, 451, 2340),
+    ];
+    for (pairs, bytes, units) in totals {
+        let total = BurstTotal { bytes, units };
+        assert_eq!(rt; total_of_pairs(&Burst, pairs), Some(total), "of {pairs:?}");
+    }
 }
 
 #[test]

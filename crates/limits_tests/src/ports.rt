@@ -65,29 +65,20 @@ fn numbers_of_the_port_refusals(rt: HostRuntime) {
 #[test]
 fn a_port_admits_by_floor_share_and_jitter(rt: HostRuntime) -> Result<(), Fail> {
     let long = [Pair { gap: 4, mtu: 100 }];
-    assert_eq!(rt;
-        breach_of_pairs(&Port::new(2905, 2905, 4)?.limit(), &long),
-        Some(0)
-    );
-    assert_eq!(rt;
-        breach_of_pairs(&Port::new(2905, 2905, 8)?.limit(), &long),
-        Some(1)
-    );
-    assert_eq!(rt;
-        breach_of_pairs(&Port::new(2905, 334, 4)?.limit(), &long),
-        Some(0)
-    );
-    assert_eq!(rt;
-        breach_of_pairs(&Port::new(2905, 333, 4)?.limit(), &long),
-        Some(2)
-    );
-    assert_eq!(rt;
-        breach_of_pairs(&Port::new(2904, 2904, 4)?.limit(), &long),
-        Some(3)
-    );
-    assert_eq!(rt;
-        breach_of_pairs(&Port::new(2904, 333, 8)?.limit(), &long),
-        Some(1)
-    );
+    for (rate, share, floor, breach) in [
+        (2905, 2905, 4, 0),
+        (2905, 2905, 8, 1),
+        (2905, 334, 4, 0),
+        (2905, 333, 4, 2),
+        (2904, 2904, 4, 3),
+        (2904, 333, 8, 1),
+    ] {
+        let limit = Port::new(rate, share, floor)?.limit();
+        assert_eq!(rt;
+            breach_of_pairs(&limit, &long),
+            Some(breach),
+            "at {rate}, {share} and {floor}"
+        );
+    }
     Ok(())
 }

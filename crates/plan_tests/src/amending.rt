@@ -1,20 +1,14 @@
+use crate::plans::{EDGES, with_link};
 use plan::{Flow, Plan, PlanFault};
 use std::test::Fail;
 
 /// A plan with links 7 and 8, each with one flow: 1 with this cycle, and 2.
 fn with_flows(cycle: u16) -> Result<Plan, Fail> {
-    let mut plan = Plan::open();
-    plan.add_link(7)?;
+    let mut plan = with_link()?;
     plan.add_link(8)?;
     plan.add_flow(7, 1, 80, cycle)?;
     plan.add_flow(8, 2, 100, 12)?;
     Ok(plan)
-}
-
-/// What is told of these figures for flow 1.
-fn told(payload: u16, cycle: u16) -> Result<Result<(), PlanFault>, Fail> {
-    let mut plan = with_flows(10)?;
-    Ok(plan.amend(1, payload, cycle))
 }
 
 #[test]
@@ -35,11 +29,11 @@ fn replaces_payload_and_cycle(rt: HostRuntime) -> Result<(), Fail> {
             cycle: 12,
         },
     ];
-    assert!(rt; plan.flows() == amended.as_slice());
-    assert!(rt; plan.links() == [7, 8].as_slice());
+    assert_eq!(rt; plan.flows(), amended.as_slice());
+    assert_eq!(rt; plan.links(), [7, 8].as_slice());
     // to the same figures
     assert_eq!(rt; plan.amend(1, 90, 20), Ok(()));
-    assert!(rt; plan.flows() == amended.as_slice());
+    assert_eq!(rt; plan.flows(), amended.as_slice());
     Ok(())
 }
 
@@ -57,14 +51,14 @@ fn amends_flows_that_stand(rt: HostRuntime) -> Result<(), Fail> {
 
 #[test]
 fn ranges_of_amended_figures(rt: HostRuntime) -> Result<(), Fail> {
-    assert_eq!(rt; told(0, 10)?, Err(PlanFault::PayloadOutOfRange));
-    assert_eq!(rt; told(1, 10)?, Ok(()));
-    assert_eq!(rt; told(8192, 10)?, Ok(()));
-    assert_eq!(rt; told(8193, 10)?, Err(PlanFault::PayloadOutOfRange));
-    assert_eq!(rt; told(80, 0)?, Err(PlanFault::CycleOutOfRange));
-    assert_eq!(rt; told(80, 1)?, Ok(()));
-    assert_eq!(rt; told(80, 10000)?, Ok(()));
-    assert_eq!(rt; told(80, 10001)?, Err(PlanFault::CycleOutOfRange));
+    for (payload, cycle, told) in EDGES {
+        let mut plan = with_flows(10)?;
+        assert_eq!(rt;
+            plan.amend(1, payload, cycle),
+            told,
+            "at {payload} and {cycle}"
+        );
+    }
     Ok(())
 }
 
@@ -126,6 +120,6 @@ fn asks_of_an_amendment_in_order(rt: HostRuntime) -> Result<(), Fail> {
             cycle: 8,
         },
     ];
-    assert!(rt; plan.flows() == unchanged.as_slice());
+    assert_eq!(rt; plan.flows(), unchanged.as_slice());
     Ok(())
 }

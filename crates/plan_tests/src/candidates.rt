@@ -1,46 +1,28 @@
+use crate::plans::with_link;
 use limits::{GAP_COUNT, Pair};
-use plan::Plan;
 use std::process::Abort;
 use std::test::Fail;
 
-const LINK: u16 = 7;
-
-/// The pairs of a link with these flows, each a payload and a cycle.
+/// The pairs of link 7 with these flows, each a payload and a cycle.
 fn offered(flows: &[(u16, u16)]) -> Result<[Option<Pair>; GAP_COUNT], Fail> {
-    let mut plan = Plan::open();
-    plan.add_link(LINK)?;
-    let mut name: u16 = 0;
-    for (payload, cycle) in flows {
-        plan.add_flow(LINK, name, *payload, *cycle)?;
-        name = name.saturating_add(1);
+    let mut plan = with_link()?;
+    for (name, (payload, cycle)) in (0..).zip(flows) {
+        plan.add_flow(7, name, *payload, *cycle)?;
     }
-    let mut place: [Option<Pair>; GAP_COUNT] = [None; GAP_COUNT];
-    plan.pairs(LINK, &mut place)?;
+    let mut place = [None; GAP_COUNT];
+    plan.pairs(7, &mut place)?;
     Ok(place)
 }
 
 /// The pair of that gap among those that are expected.
 fn at(pairs: &[(u16, u16)], gap: u16) -> Option<Pair> {
-    for (g, mtu) in pairs {
-        if *g == gap {
-            return Some(Pair { gap, mtu: *mtu });
-        }
-    }
-    None
+    let (_, mtu) = *pairs.iter().find(|pair| pair.0 == gap)?;
+    Some(Pair { gap, mtu })
 }
 
 /// These flows have these pairs, each a gap and an MTU, and none at the other gaps.
 fn expect(rt: &impl Abort, flows: &[(u16, u16)], pairs: &[(u16, u16)]) -> Result<(), Fail> {
-    let expected = [
-        at(pairs, 1),
-        at(pairs, 2),
-        at(pairs, 4),
-        at(pairs, 8),
-        at(pairs, 16),
-        at(pairs, 32),
-        at(pairs, 64),
-        at(pairs, 128),
-    ];
+    let expected = [1, 2, 4, 8, 16, 32, 64, 128].map(|gap| at(pairs, gap));
     assert_eq!(rt; offered(flows)?, expected);
     Ok(())
 }

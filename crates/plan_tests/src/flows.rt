@@ -1,18 +1,6 @@
-use plan::{Flow, Plan, PlanFault};
+use crate::plans::{EDGES, with_link};
+use plan::{Flow, PlanFault};
 use std::test::Fail;
-
-/// A plan with link 7 alone.
-fn with_link() -> Result<Plan, Fail> {
-    let mut plan = Plan::open();
-    plan.add_link(7)?;
-    Ok(plan)
-}
-
-/// What a plan with link 7 alone tells of a flow with these figures.
-fn told(payload: u16, cycle: u16) -> Result<Result<(), PlanFault>, Fail> {
-    let mut plan = with_link()?;
-    Ok(plan.add_flow(7, 1, payload, cycle))
-}
 
 #[test]
 fn keeps_flows_in_rising_name(rt: HostRuntime) -> Result<(), Fail> {
@@ -48,20 +36,20 @@ fn keeps_flows_in_rising_name(rt: HostRuntime) -> Result<(), Fail> {
             cycle: 1,
         },
     ];
-    assert!(rt; plan.flows() == expected.as_slice());
+    assert_eq!(rt; plan.flows(), expected.as_slice());
     Ok(())
 }
 
 #[test]
 fn ranges_of_the_figures(rt: HostRuntime) -> Result<(), Fail> {
-    assert_eq!(rt; told(0, 10)?, Err(PlanFault::PayloadOutOfRange));
-    assert_eq!(rt; told(1, 10)?, Ok(()));
-    assert_eq!(rt; told(8192, 10)?, Ok(()));
-    assert_eq!(rt; told(8193, 10)?, Err(PlanFault::PayloadOutOfRange));
-    assert_eq!(rt; told(80, 0)?, Err(PlanFault::CycleOutOfRange));
-    assert_eq!(rt; told(80, 1)?, Ok(()));
-    assert_eq!(rt; told(80, 10000)?, Ok(()));
-    assert_eq!(rt; told(80, 10001)?, Err(PlanFault::CycleOutOfRange));
+    for (payload, cycle, told) in EDGES {
+        let mut plan = with_link()?;
+        assert_eq!(rt;
+            plan.add_flow(7, 1, payload, cycle),
+            told,
+            "at {payload} and {cycle}"
+        );
+    }
     Ok(())
 }
 
@@ -135,6 +123,6 @@ fn asks_in_order(rt: HostRuntime) -> Result<(), Fail> {
         payload: 80,
         cycle: 1000,
     }];
-    assert!(rt; plan.flows() == alone.as_slice());
+    assert_eq!(rt; plan.flows(), alone.as_slice());
     Ok(())
 }

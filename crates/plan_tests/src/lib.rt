@@ -16,6 +16,8 @@ mod mixed_calls;
 #[cfg(test)]
 mod pairs;
 #[cfg(test)]
+mod plans;
+#[cfg(test)]
 mod refusals;
 #[cfg(test)]
 mod withdrawing;

@@ -1,3 +1,4 @@
+use crate::plans::with_link;
 use limits::{GAP_COUNT, Pair};
 use plan::{Plan, PlanFault};
 use std::test::Fail;
@@ -21,8 +22,7 @@ fn refused_pairs_leave_the_place(rt: HostRuntime) -> Result<(), Fail> {
 
 #[test]
 fn accepted_pairs_write_every_row(rt: HostRuntime) -> Result<(), Fail> {
-    let mut plan = Plan::open();
-    plan.add_link(7)?;
+    let mut plan = with_link()?;
     plan.add_flow(7, 1, 8192, 5)?;
     let mut place = [MARK; GAP_COUNT];
     assert_eq!(rt; plan.pairs(7, &mut place), Ok(()));

@@ -18,6 +18,14 @@ pub(crate) fn two_links() -> Result<Plan, Fail> {
     Ok(plan)
 }
 
+/// Link 7 with flow 1 alone, of this payload and cycle.
+pub(crate) fn one_flow(payload: u16, cycle: u16) -> Result<Plan, Fail> {
+    let mut plan = Plan::open();
+    plan.add_link(7)?;
+    plan.add_flow(7, 1, payload, cycle)?;
+    Ok(plan)
+}
+
 /// A row of a setting.
 pub(crate) fn row(link: u16, gap: u16, mtu: u16) -> Row {
     Row {

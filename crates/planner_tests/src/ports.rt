@@ -1,4 +1,4 @@
-use crate::plans::{row, two_links};
+use crate::plans::{one_flow, row, two_links};
 use limits::Port;
 use plan::Plan;
 use planner::{Row, SettingFault, check_port_setting};
@@ -9,14 +9,14 @@ use std::test::Fail;
 fn expect(
     rt: &impl Abort,
     plan: &Plan,
-    figures: (u32, u32, u32),
+    (rate, share, floor): (u32, u32, u32),
     rows: &[Row],
     told: Result<(), SettingFault>,
 ) -> Result<(), Fail> {
-    let (rate, share, floor) = figures;
     assert_eq!(rt;
         check_port_setting(plan, Port::new(rate, share, floor)?, rows),
-        told
+        told,
+        "of {rows:?} at {rate}, {share} and {floor}"
     );
     Ok(())
 }
@@ -27,44 +27,23 @@ fn expect(
 fn a_setting_at_the_edges_of_a_port(rt: HostRuntime) -> Result<(), Fail> {
     let plan = two_links()?;
     let rows = [row(1, 16, 67), row(2, 32, 250)];
-    expect(&rt, &plan, (10_000, 10_000, 1), &rows, Ok(()))?;
-    expect(&rt, &plan, (7844, 147, 16), &rows, Ok(()))?;
-    expect(
-        &rt,
-        &plan,
-        (7844, 147, 32),
-        &rows,
-        Err(SettingFault::NotWithin { breach: 1 }),
-    )?;
-    expect(
-        &rt,
-        &plan,
-        (7844, 146, 16),
-        &rows,
-        Err(SettingFault::NotWithin { breach: 2 }),
-    )?;
-    expect(
-        &rt,
-        &plan,
-        (7843, 147, 16),
-        &rows,
-        Err(SettingFault::NotWithin { breach: 3 }),
-    )?;
-    expect(
-        &rt,
-        &plan,
-        (7843, 146, 32),
-        &rows,
-        Err(SettingFault::NotWithin { breach: 1 }),
-    )
+    for (figures, told) in [
+        ((10_000, 10_000, 1), Ok(())),
+        ((7844, 147, 16), Ok(())),
+        ((7844, 147, 32), Err(SettingFault::NotWithin { breach: 1 })),
+        ((7844, 146, 16), Err(SettingFault::NotWithin { breach: 2 })),
+        ((7843, 147, 16), Err(SettingFault::NotWithin { breach: 3 })),
+        ((7843, 146, 32), Err(SettingFault::NotWithin { breach: 1 })),
+    ] {
+        expect(&rt, &plan, figures, &rows, told)?;
+    }
+    Ok(())
 }
 
 // 92 bytes at 1,600 kbit/s take 460 microseconds, and with 40 in the hardware that is 500. One byte more is too much.
 #[test]
 fn one_byte_more_than_the_jitter_allows(rt: HostRuntime) -> Result<(), Fail> {
-    let mut plan = Plan::open();
-    plan.add_link(7)?;
-    plan.add_flow(7, 1, 25, 128)?;
+    let plan = one_flow(25, 128)?;
     expect(&rt, &plan, (1600, 1600, 1), &[row(7, 128, 25)], Ok(()))?;
     expect(
         &rt,
@@ -78,9 +57,7 @@ fn one_byte_more_than_the_jitter_allows(rt: HostRuntime) -> Result<(), Fail> {
 // 84 bytes every 4 ms are 168 kbit/s.
 #[test]
 fn one_byte_more_than_the_share_allows(rt: HostRuntime) -> Result<(), Fail> {
-    let mut plan = Plan::open();
-    plan.add_link(7)?;
-    plan.add_flow(7, 1, 17, 4)?;
+    let plan = one_flow(17, 4)?;
     expect(&rt, &plan, (10_000, 168, 1), &[row(7, 4, 17)], Ok(()))?;
     expect(
         &rt,
@@ -117,32 +94,13 @@ fn a_port_asks_the_other_questions_first(rt: HostRuntime) -> Result<(), Fail> {
     let plan = two_links()?;
     let figures = (1, 1, 128);
     expect(&rt, &plan, figures, &[], Err(SettingFault::RowsNotTheLinks))?;
-    expect(
-        &rt,
-        &plan,
-        figures,
-        &[row(1, 1, 5), row(2, 3, 7)],
-        Err(SettingFault::GapUnlawful { row: 2 }),
-    )?;
-    expect(
-        &rt,
-        &plan,
-        figures,
-        &[row(1, 1, 5), row(2, 1, 0)],
-        Err(SettingFault::MtuUnlawful { row: 2 }),
-    )?;
-    expect(
-        &rt,
-        &plan,
-        figures,
-        &[row(1, 1, 5), row(2, 1, 6)],
-        Err(SettingFault::MessagesUnserved { row: 2 }),
-    )?;
-    expect(
-        &rt,
-        &plan,
-        figures,
-        &[row(1, 1, 5), row(2, 1, 7)],
-        Err(SettingFault::NotWithin { breach: 1 }),
-    )
+    for (second, told) in [
+        (row(2, 3, 7), Err(SettingFault::GapUnlawful { row: 2 })),
+        (row(2, 1, 0), Err(SettingFault::MtuUnlawful { row: 2 })),
+        (row(2, 1, 6), Err(SettingFault::MessagesUnserved { row: 2 })),
+        (row(2, 1, 7), Err(SettingFault::NotWithin { breach: 1 })),
+    ] {
+        expect(&rt, &plan, figures, &[row(1, 1, 5), second], told)?;
+    }
+    Ok(())
 }

@@ -1,6 +1,5 @@
-use crate::plans::{row, two_links};
+use crate::plans::{one_flow, row, two_links};
 use limits::{Open, Pair};
-use plan::Plan;
 use planner::{SettingFault, check_setting};
 use std::test::Fail;
 
@@ -47,9 +46,7 @@ fn pairs_that_are_short_of_the_message_rule(rt: HostRuntime) -> Result<(), Fail>
 // 1/127 is more than 1/128, however alike they look when rounded.
 #[test]
 fn the_message_rule_is_exact(rt: HostRuntime) -> Result<(), Fail> {
-    let mut plan = Plan::open();
-    plan.add_link(7)?;
-    plan.add_flow(7, 1, 1471, 128)?;
+    let mut plan = one_flow(1471, 128)?;
     assert_eq!(rt; check_setting(&plan, &Open, &[row(7, 128, 1471)]), Ok(()));
     plan.amend(1, 1471, 127)?;
     assert_eq!(rt;

@@ -5,7 +5,7 @@ mod notes;
 mod offer;
 mod order_book;
 
-use limits::{GAP_COUNT, Pair};
+use limits::GAP_COUNT;
 use notes::{print_answer, print_call, print_standing};
 use offer::print_pairs;
 use order_book::ORDER_BOOK;
@@ -21,9 +21,9 @@ fn main(rt: HostRuntime) -> io::Result<()> {
     println!(rt;
         "2. Go through the order book, one call after the other. A refused call changes nothing."
     )?;
-    for call in &ORDER_BOOK {
-        print_call(&rt, *call)?;
-        print_answer(&rt, plan.perform(*call))?;
+    for call in ORDER_BOOK {
+        print_call(&rt, call)?;
+        print_answer(&rt, plan.perform(call))?;
     }
     println!(rt; "3. See what stands.")?;
     print_standing(&rt, &plan)?;
@@ -39,7 +39,7 @@ fn ask_pairs(rt: &impl Print, plan: &Plan, step: u8, link: u16) -> io::Result<()
     println!(rt;
         "{step}. Ask for the pairs of link {link}: for each gap the least MTU that serves its flows."
     )?;
-    let mut place: [Option<Pair>; GAP_COUNT] = [None; GAP_COUNT];
+    let mut place = [None; GAP_COUNT];
     print_answer(rt, plan.pairs(link, &mut place))?;
     print_pairs(rt, plan, link, &place)
 }

@@ -24,24 +24,22 @@ pub(crate) fn print_call(rt: &impl Print, call: Call) -> io::Result<()> {
 pub(crate) fn print_answer(rt: &impl Print, told: Result<(), PlanFault>) -> io::Result<()> {
     match told {
         Ok(()) => println!(rt; "   accepted"),
-        Err(fault) => {
-            let number = fault.number();
-            let detail = fault.detail();
-            println!(rt; "   refused, {number} {detail}: {fault}")
-        }
+        Err(fault) => println!(rt;
+            "   refused, {} {}: {fault}",
+            fault.number(),
+            fault.detail()
+        ),
     }
 }
 
 /// Says what stands in the plan.
 pub(crate) fn print_standing(rt: &impl Print, plan: &Plan) -> io::Result<()> {
-    let links = plan.links();
-    println!(rt; "   links that stand: {links:?}")?;
+    println!(rt; "   links that stand: {:?}", plan.links())?;
     for flow in plan.flows() {
-        let name = flow.name;
-        let link = flow.link;
-        let payload = flow.payload;
-        let cycle = flow.cycle;
-        println!(rt; "   flow {name} of link {link}: {payload} bytes every {cycle} ms")?;
+        println!(rt;
+            "   flow {} of link {}: {} bytes every {} ms",
+            flow.name, flow.link, flow.payload, flow.cycle
+        )?;
     }
     Ok(())
 }

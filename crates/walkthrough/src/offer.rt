@@ -16,12 +16,9 @@ pub(crate) fn print_pairs(
         return println!(rt; "   the frames of link {link} cannot be counted");
     };
     println!(rt; "   The cycles of its flows come round together every {common} ms.")?;
-    for (gap, candidate) in GAPS.iter().zip(place.iter()) {
+    for (gap, candidate) in GAPS.iter().zip(place) {
         match candidate {
-            Some(pair) => {
-                let mtu = pair.mtu;
-                println!(rt; "   gap {gap} ms: MTU {mtu} bytes")?;
-            }
+            Some(pair) => println!(rt; "   gap {gap} ms: MTU {} bytes", pair.mtu)?,
             None => {
                 let needed = frames.saturating_mul(u64::from(*gap));
                 println!(rt;
@@ -35,13 +32,16 @@ pub(crate) fn print_pairs(
 
 /// The frames that the flows of the link send in one common cycle at the largest MTU.
 fn fewest_frames(flows: &[Flow], link: u16, common: u64) -> Option<u64> {
-    let mut frames: u64 = 0;
-    for flow in flows {
-        if flow.link == link {
-            let each = u64::from(flow.payload).div_ceil(u64::from(MTU_MAX));
-            let times = common.checked_div(u64::from(flow.cycle))?;
-            frames = frames.checked_add(each.checked_mul(times)?)?;
-        }
-    }
-    Some(frames)
+    flows
+        .iter()
+        .filter(|flow| flow.link == link)
+        .map(|flow| frames_of(flow, common))
+        .try_fold(0_u64, |frames, sent| frames.checked_add(sent?))
+}
+
+/// The frames that one flow sends in the common cycle at the largest MTU.
+fn frames_of(flow: &Flow, common: u64) -> Option<u64> {
+    let each = u64::from(flow.payload).div_ceil(u64::from(MTU_MAX));
+    let times = common.checked_div(u64::from(flow.cycle))?;
+    each.checked_mul(times)
 }
