@@ -67,6 +67,23 @@ fn a_layer_lies_on_any_limit(rt: HostRuntime) {
     assert_eq!(rt; breach_of_pairs(&Layer { rule, below }, &high), Some(0));
 }
 
+// The pair reserves 168 kbit/s, and its frame needs 1,461 kbit/s. Only the numbers of the layers turn with their order.
+#[test]
+fn layers_lie_in_any_order(rt: HostRuntime) {
+    let pairs = [Pair { gap: 4, mtu: 17 }];
+    let turned = |floor, share, jitter| Layer {
+        rule: Jitter { rate: jitter },
+        below: Layer {
+            rule: Share { rate: share },
+            below: Floor { gap: floor },
+        },
+    };
+    assert_eq!(rt; breach_of_pairs(&turned(4, 168, 1461), &pairs), Some(0));
+    assert_eq!(rt; breach_of_pairs(&turned(4, 168, 1460), &pairs), Some(1));
+    assert_eq!(rt; breach_of_pairs(&turned(4, 167, 1461), &pairs), Some(2));
+    assert_eq!(rt; breach_of_pairs(&turned(8, 168, 1461), &pairs), Some(3));
+}
+
 #[test]
 fn the_breach_stops_at_its_greatest_value(rt: HostRuntime) {
     let pairs = [Pair { gap: 4, mtu: 17 }];

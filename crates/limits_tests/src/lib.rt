@@ -6,6 +6,8 @@ mod floor;
 #[cfg(test)]
 mod jitter;
 #[cfg(test)]
+mod lawful;
+#[cfg(test)]
 mod layers;
 #[cfg(test)]
 mod measures;

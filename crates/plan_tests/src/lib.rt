@@ -8,8 +8,6 @@ mod candidates;
 #[cfg(test)]
 mod flows;
 #[cfg(test)]
-mod lawful;
-#[cfg(test)]
 mod links;
 #[cfg(test)]
 mod mixed_calls;

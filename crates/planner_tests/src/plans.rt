@@ -26,6 +26,18 @@ pub(crate) fn one_flow(payload: u16, cycle: u16) -> Result<Plan, Fail> {
     Ok(plan)
 }
 
+/// As many links as there may be, each with one byte every 128 ms, and a setting that serves them.
+pub(crate) fn one_byte_each() -> Result<(Plan, [Row; 64]), Fail> {
+    let mut plan = Plan::open();
+    let mut rows = [row(0, 128, 1); 64];
+    for (name, row) in (0..64).zip(&mut rows) {
+        plan.add_link(name)?;
+        plan.add_flow(name, name, 1, 128)?;
+        row.link = name;
+    }
+    Ok((plan, rows))
+}
+
 /// A row of a setting.
 pub(crate) fn row(link: u16, gap: u16, mtu: u16) -> Row {
     Row {

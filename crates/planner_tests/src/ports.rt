@@ -68,6 +68,37 @@ fn one_byte_more_than_the_share_allows(rt: HostRuntime) -> Result<(), Fail> {
     )
 }
 
+// The first link may send 160 / 16 frames in 160 ms. The second reserves 317, 320 or 321 bytes × 4 units, and a share of 147
+// kbit/s has 2,352 units.
+#[test]
+fn one_byte_from_a_setting_that_fits(rt: HostRuntime) -> Result<(), Fail> {
+    let plan = two_links()?;
+    let figures = (10_000, 147, 16);
+    for (first, second, told) in [
+        ((16, 67), (32, 250), Ok(())),
+        (
+            (16, 66),
+            (32, 250),
+            Err(SettingFault::MessagesUnserved { row: 1 }),
+        ),
+        ((16, 67), (32, 253), Ok(())),
+        (
+            (16, 67),
+            (32, 254),
+            Err(SettingFault::NotWithin { breach: 2 }),
+        ),
+        (
+            (8, 67),
+            (32, 250),
+            Err(SettingFault::NotWithin { breach: 1 }),
+        ),
+    ] {
+        let rows = [row(1, first.0, first.1), row(2, second.0, second.1)];
+        expect(&rt, &plan, figures, &rows, told)?;
+    }
+    Ok(())
+}
+
 // 1 Mbit/s sends 57 bytes in 460 microseconds, and one frame of each link has 72 and 80 bytes.
 #[test]
 fn a_slow_port(rt: HostRuntime) -> Result<(), Fail> {

@@ -1,4 +1,4 @@
-use crate::plans::{row, two_links};
+use crate::plans::{one_byte_each, row, two_links};
 use limits::Open;
 use plan::Plan;
 use planner::{Row, SettingFault, check_setting};
@@ -49,6 +49,23 @@ fn rows_name_the_links_in_plan_order(rt: HostRuntime) -> Result<(), Fail> {
     expect(&rt, &[row(2, 1, 7), row(1, 1, 5)], refused)?;
     expect(&rt, &[row(1, 1, 5), row(3, 1, 7)], refused)?;
     expect(&rt, &[row(1, 3, 0), row(1, 3, 0)], refused)
+}
+
+// A setting of 64 rows is checked to its last, and a 65th row names no link.
+#[test]
+fn the_largest_setting(rt: HostRuntime) -> Result<(), Fail> {
+    let (plan, mut rows) = one_byte_each()?;
+    assert_eq!(rt; check_setting(&plan, &Open, &rows), Ok(()));
+    rows[63].pair.mtu = 0;
+    assert_eq!(rt;
+        check_setting(&plan, &Open, &rows),
+        Err(SettingFault::MtuUnlawful { row: 64 })
+    );
+    assert_eq!(rt;
+        check_setting(&plan, &Open, &[row(0, 128, 1); 65]),
+        Err(SettingFault::RowsNotTheLinks)
+    );
+    Ok(())
 }
 
 #[test]
