@@ -1,5 +1,5 @@
 use plan::{Call, Plan, PlanFault};
-use std::io;
+use std::{fmt, io};
 
 /// Says what is called.
 pub(crate) fn print_call(rt: &impl Print, call: Call) -> io::Result<()> {
@@ -20,16 +20,27 @@ pub(crate) fn print_call(rt: &impl Print, call: Call) -> io::Result<()> {
     }
 }
 
-/// Says what a call told.
+/// Says what a call of a plan told.
 pub(crate) fn print_answer(rt: &impl Print, told: Result<(), PlanFault>) -> io::Result<()> {
     match told {
-        Ok(()) => println!(rt; "   accepted"),
-        Err(fault) => println!(rt;
-            "   refused, {} {}: {fault}",
-            fault.number(),
-            fault.detail()
-        ),
+        Ok(()) => print_accepted(rt),
+        Err(fault) => print_refused(rt, fault.number(), fault.detail(), &fault),
     }
+}
+
+/// Says that a call was accepted.
+pub(crate) fn print_accepted(rt: &impl Print) -> io::Result<()> {
+    println!(rt; "   accepted")
+}
+
+/// Says that a call was refused, with the number, the detail and the words of the refusal.
+pub(crate) fn print_refused(
+    rt: &impl Print,
+    number: u8,
+    detail: u32,
+    words: &impl fmt::Display,
+) -> io::Result<()> {
+    println!(rt; "   refused, {number} {detail}: {words}")
 }
 
 /// Says what stands in the plan.

@@ -1,5 +1,6 @@
+use crate::frames::frames_of_link;
 use limits::{GAP_COUNT, GAPS, MTU_MAX, Pair};
-use plan::{Flow, Plan};
+use plan::Plan;
 use std::io;
 
 /// Says which pair each gap has, or why it has none.
@@ -12,7 +13,7 @@ pub(crate) fn print_pairs(
     let Ok(common) = plan.common_cycle(link) else {
         return println!(rt; "   no link {link} stands");
     };
-    let Some(frames) = fewest_frames(plan.flows(), link, common) else {
+    let Some(frames) = frames_of_link(plan.flows(), link, common, MTU_MAX) else {
         return println!(rt; "   the frames of link {link} cannot be counted");
     };
     println!(rt; "   The cycles of its flows come round together every {common} ms.")?;
@@ -28,20 +29,4 @@ pub(crate) fn print_pairs(
         }
     }
     Ok(())
-}
-
-/// The frames that the flows of the link send in one common cycle at the largest MTU.
-fn fewest_frames(flows: &[Flow], link: u16, common: u64) -> Option<u64> {
-    flows
-        .iter()
-        .filter(|flow| flow.link == link)
-        .map(|flow| frames_of(flow, common))
-        .try_fold(0_u64, |frames, sent| frames.checked_add(sent?))
-}
-
-/// The frames that one flow sends in the common cycle at the largest MTU.
-fn frames_of(flow: &Flow, common: u64) -> Option<u64> {
-    let each = u64::from(flow.payload).div_ceil(u64::from(MTU_MAX));
-    let times = common.checked_div(u64::from(flow.cycle))?;
-    each.checked_mul(times)
 }
