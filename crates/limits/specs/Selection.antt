@@ -1,6 +1,6 @@
 -- Selections: the lists of pairs that limits and measures speak of.
-use Rattle.std.specs.Prelude.{◌≡◌, ℕ, ◌≤◌, true, List, length}
-use Rattle.std.specs.List.{AllZip, AllByRecursion}
+use Rattle.std.specs.Prelude.{◌≡◌, ℕ, ◌≤◌, Bool, true, ◌&&◌, List, length, nat_le}
+use Rattle.std.specs.List.{list_all, AllZip, AllByRecursion}
 use Rattle.limits.specs.declared.pair.Pair.{Pair}
 use Rattle.limits.specs.Gaps.{eight_gaps}
 use Rattle.limits.specs.Lawful.{lawful}
@@ -17,6 +17,10 @@ Lawful p = lawful eight_gaps p ≡ true
 pub record Selection (s : List Pair) : Type 0 where
   pub few : length s ≤ max_pairs
   pub each : AllByRecursion Lawful s
+
+-- the same as a test
+abbrev pub is_selection : List Pair → Bool
+is_selection s = nat_le (length s) max_pairs && list_all (lawful eight_gaps) s
 
 -- the pairs have the same gap, and the MTU of the first does not exceed that of the second
 abbrev pub Lower : Pair → Pair → Type 0

@@ -54,6 +54,7 @@ fn name_links(links: &[u16], rows: &[Row]) -> bool
 }
 
 /// The breach of the pairs of the rows, if there is one.
+#[tactic(auto, using(limits::proofs::Judged::judged_selection))]
 fn breach_of_rows<L: Limit>(limit: &L, rows: &[Row]) -> Option<u32>
     requires { Selection (pairs rows.now) }
     ensures { result ≡ if_any (L.breach limit.now (pairs rows.now)) }
