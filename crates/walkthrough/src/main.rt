@@ -54,7 +54,7 @@ fn ask_pairs(rt: &impl Print, plan: &Plan, step: u8, link: u16) -> io::Result<()
 
 /// Makes the port, and checks settings that were made elsewhere.
 fn check_settings(rt: &impl Print, plan: &Plan) -> io::Result<()> {
-    println!(rt; "7. Make the port, whose figures are asked first.")?;
+    println!(rt; "7. Make the port. Its figures are checked first.")?;
     let _ = make_port(rt, 10_000, 10_001, 4)?;
     let Some(port) = make_port(rt, 10_000, 401, 4)? else {
         return Ok(());
