@@ -1,5 +1,5 @@
 -- The burst of a selection, and how two bursts compare.
-use Rattle.std.specs.Prelude.{Bool, cond, List, ◌==◌, nat_le, nat_lt}
+use Rattle.std.specs.Prelude.{Bool, ◌&&◌, ◌||◌, List, ◌==◌, nat_le, nat_lt}
 use Rattle.limits.specs.declared.pair.Pair.{Pair}
 use Rattle.limits.specs.declared.burst_total.BurstTotal.{BurstTotal}
 use Rattle.limits.specs.Sums.{burst_bytes, reserve}
@@ -10,4 +10,4 @@ burst s = record { bytes = burst_bytes s; units = reserve s }
 
 -- fewer bytes, or as many and no more reserved
 abbrev pub burst_at_most : BurstTotal → BurstTotal → Bool
-burst_at_most x y = cond (x.bytes == y.bytes) (nat_le x.units y.units) (nat_lt x.bytes y.bytes)
+burst_at_most x y = nat_lt x.bytes y.bytes || (x.bytes == y.bytes && nat_le x.units y.units)

@@ -14,20 +14,21 @@ use Rattle.limits.specs.Within.{le_from_within}
 
 -- ---- what the gap and the MTU of a lawful pair are
 -- a gap is positive and divides 128
-abbrev even_gap : ℕ → Bool
-even_gap g = nat_lt 0 g && 128 % g == 0
+abbrev divides_128 : ℕ → Bool
+divides_128 g = nat_lt 0 g && 128 % g == 0
 
-lawful_gap : (p : Pair) → Lawful p → even_gap p.gap ≡ true
-lawful_gap p h =
-    all_among (λ g. even_gap g ≡ true) eight_gaps p.gap (all_from_every even_gap eight_gaps refl) (and_parts _ _ h).0
+gap_divides_128 : (p : Pair) → Lawful p → divides_128 p.gap ≡ true
+gap_divides_128 p h =
+    all_among (λ g. divides_128 g ≡ true) eight_gaps p.gap (all_from_every divides_128 eight_gaps refl) (and_parts _ _ h).0
 
 pub gap_positive : (p : Pair) → Lawful p → 0 < p.gap
-gap_positive p h = ltb-true 0 p.gap (and_parts _ _ (lawful_gap p h)).0
+gap_positive p h = ltb-true 0 p.gap (and_parts _ _ (gap_divides_128 p h)).0
 
-lawful_mtu : (p : Pair) → Lawful p → p.mtu ≤ mtu_max
-lawful_mtu p h = (le_from_within mtu_min mtu_max p.mtu (and_parts _ _ h).1).1
+mtu_most : (p : Pair) → Lawful p → p.mtu ≤ mtu_max
+mtu_most p h = (le_from_within mtu_min mtu_max p.mtu (and_parts _ _ h).1).1
 
 -- ---- frame bytes
+-- no frame of a lawful pair has more bytes; that of MTU 1,471 has as many
 abbrev pub max_frame : ℕ
 max_frame = 1538
 
@@ -37,9 +38,10 @@ frame_rises p q low = omega arith
 
 pub frame_most : (p : Pair) → Lawful p → frame p ≤ max_frame
 unfolding frame_bytes
-frame_most p h = omega (arith, lawful_mtu p h)
+frame_most p h = omega (arith, mtu_most p h)
 
 -- ---- units
+-- no lawful pair reserves more; that of gap 1 and MTU 1,471 reserves as much
 abbrev pub max_units : ℕ
 max_units = 196864
 
@@ -57,5 +59,5 @@ units_most p h = let less = frame_most p h in le_trans (div-le_self (frame p * 1
 pub units_exact : (p : Pair) → Lawful p → units p * p.gap ≡ frame p * 128
 unfolding units
 units_exact p h =
-    let divides = dvd_of_mod-eq-zero p.gap (eqb-true (128 % p.gap) 0 (and_parts _ _ (lawful_gap p h)).1) in
+    let divides = dvd_of_mod-eq-zero p.gap (eqb-true (128 % p.gap) 0 (and_parts _ _ (gap_divides_128 p h)).1) in
     div-mul_cancel p.gap (dvd_trans p.gap divides (dvd-mul_left 128 (frame p)))

@@ -11,6 +11,14 @@ mtu_min = 1
 abbrev pub mtu_max : ℕ
 mtu_max = 1471
 
--- a pair is lawful when its gap is one of the gaps and its MTU is in range
+-- the gap of the pair is one of the gaps
+abbrev pub lawful_gap : List ℕ → Pair → Bool
+lawful_gap gaps p = among gaps p.gap
+
+-- the MTU of the pair is in range
+abbrev pub lawful_mtu : Pair → Bool
+lawful_mtu p = within mtu_min mtu_max p.mtu
+
+-- a pair is lawful when both are
 abbrev pub lawful : List ℕ → Pair → Bool
-lawful gaps p = among gaps p.gap && within mtu_min mtu_max p.mtu
+lawful gaps p = lawful_gap gaps p && lawful_mtu p

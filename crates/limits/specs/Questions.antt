@@ -1,5 +1,5 @@
 -- The questions that a call is asked.
-use Rattle.std.specs.Prelude.{ℕ, Bool, cond, List, [], ◌∷◌}
+use Rattle.std.specs.Prelude.{ℕ, Bool, if◌then◌else◌, List, [], ◌∷◌}
 
 -- each question's number, and whether it is answered yes
 abbrev pub Questions : Type 0
@@ -8,4 +8,4 @@ Questions = List (ℕ × Bool)
 -- the number of the first question that is answered no, or 0
 abbrev pub first_no : Questions → ℕ
 first_no [] = 0
-first_no (q ∷ qs) = cond q.1 (first_no qs) q.0
+first_no (q ∷ qs) = if q.1 then first_no qs else q.0

@@ -9,4 +9,4 @@ MayTake meaning kept p = (s : List Pair) × (kept ≡ meaning s) × Selection (s
 
 -- of every such list this is kept with the pair
 abbrev pub Takes : {X : Type 0} → (List Pair → X) → X → Pair → X → Type 0
-Takes meaning kept p now = (s : List Pair) → kept ≡ meaning s → Selection (s ++ p ∷ []) → now ≡ meaning (s ++ p ∷ [])
+Takes meaning kept p next = (s : List Pair) → kept ≡ meaning s → Selection (s ++ p ∷ []) → next ≡ meaning (s ++ p ∷ [])

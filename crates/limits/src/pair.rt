@@ -1,7 +1,6 @@
 ghost use Rattle.std.specs.Prelude.{◌≡◌};
 ghost use Rattle.limits.specs.Gaps.{eight_gaps};
-ghost use Rattle.limits.specs.Lawful.{mtu_min, mtu_max, lawful};
-ghost use Rattle.limits.specs.Range.{within, among};
+ghost use Rattle.limits.specs.Lawful.{lawful_gap, lawful_mtu, lawful};
 
 use crate::gaps::is_gap;
 
@@ -21,14 +20,14 @@ pub struct Pair {
 impl Pair {
     /// Is the gap one of the eight?
     pub fn has_lawful_gap(self) -> bool
-        ensures { result ≡ among eight_gaps self.gap }
+        ensures { result ≡ lawful_gap eight_gaps self }
     {
         is_gap(u32::from(self.gap))
     }
 
     /// Is the MTU from 1 to 1,471?
     pub fn has_lawful_mtu(self) -> bool
-        ensures { result ≡ within mtu_min mtu_max self.mtu }
+        ensures { result ≡ lawful_mtu self }
     {
         (MTU_MIN..=MTU_MAX).contains(&self.mtu)
     }

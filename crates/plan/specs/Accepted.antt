@@ -1,5 +1,5 @@
 -- The accepted calls of a list, and what they add and give.
-use Rattle.std.specs.Prelude.{ℕ, Bool, false, cond, List, [], ◌∷◌, ◌++◌, Some, None, Option, ◌==◌}
+use Rattle.std.specs.Prelude.{ℕ, Bool, false, if◌then◌else◌, List, [], ◌∷◌, ◌++◌, Some, None, Option, ◌==◌}
 use Rattle.std.specs.Option.{option_map, option_or, option_flatten}
 use Rattle.plan.specs.declared.call.Call.{Call}
 use Rattle.plan.specs.declared.call.Call.TheVariants.{AddLink, AddFlow, Amend, Withdraw}
@@ -8,7 +8,7 @@ use Rattle.plan.specs.Standing.{Standing, nothing}
 
 -- the call alone where it is accepted, else none
 abbrev pub if_accepted : Standing → Call → List Call
-if_accepted st call = cond (answer st call == 0) (call ∷ []) []
+if_accepted st call = if answer st call == 0 then call ∷ [] else []
 
 -- the calls that are accepted, in their order, from a standing on
 abbrev pub accepted_from : Standing → List Call → List Call
@@ -62,7 +62,7 @@ figures_given (Withdraw flow) = None
 -- the last call that passes the test
 abbrev pub last_that : (Call → Bool) → List Call → Option Call
 last_that test [] = None
-last_that test (call ∷ calls) = option_or (last_that test calls) (cond (test call) (Some call) None)
+last_that test (call ∷ calls) = option_or (last_that test calls) (if test call then Some call else None)
 
 -- what the last call that passes the test gives
 abbrev pub last_given : {X : Type 0} → (Call → Option X) → (Call → Bool) → List Call → Option X

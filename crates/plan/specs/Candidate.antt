@@ -1,5 +1,5 @@
 -- The candidates of a link: for each gap the pair with the least MTU that meets the message rule.
-use Rattle.std.specs.Prelude.{◌≡◌, ℕ, zero, suc, ◌-◌, ◌≤◌, Bool, true, false, cond, List, map, Some, None, Option}
+use Rattle.std.specs.Prelude.{◌≡◌, ℕ, zero, suc, ◌-◌, ◌≤◌, Bool, true, false, if◌then◌else◌, List, map, Some, None, Option}
 use Rattle.std.specs.Option.{option_map}
 use Rattle.limits.specs.declared.pair.Pair.{Pair}
 use Rattle.limits.specs.Lawful.{mtu_min, mtu_max}
@@ -9,7 +9,7 @@ use Rattle.plan.specs.Message.{meets}
 -- the first of the n numbers from low on that passes the test
 unfoldable pub first_from : (ℕ → Bool) → ℕ → ℕ → Option ℕ
 first_from test low zero = None
-first_from test low (suc n) = cond (test low) (Some low) (first_from test (suc low) n)
+first_from test low (suc n) = if test low then Some low else first_from test (suc low) n
 
 -- the least number from low to high that passes the test
 abbrev pub least_within : ℕ → ℕ → (ℕ → Bool) → Option ℕ

@@ -1,7 +1,7 @@
 -- Exact fractions.
 use Rattle.std.specs.Prelude.{ℕ, ◌+◌, ◌*◌, Bool, List, [], ◌∷◌, nat_le}
 
--- a numerator over a denominator, which is a gap or a product of cycles here, and so positive
+-- a numerator over a denominator; the rules have only positive ones: gaps, cycles, rates and products of them
 pub record Fraction : Type 0 where
   pub num : ℕ
   pub den : ℕ

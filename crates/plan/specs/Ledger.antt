@@ -1,7 +1,7 @@
 -- The ledger: which questions a call is asked of what stands, what stands afterwards, and what stands after a list of calls.
 -- A call is the code's `Call` (src/call.rt) with its arguments: AddLink name, AddFlow link flow payload cycle,
 -- Amend flow payload cycle, Withdraw flow.
-use Rattle.std.specs.Prelude.{ℕ, cond, not, List, [], ◌∷◌, ◌++◌, length, fold, ◌==◌, nat_lt}
+use Rattle.std.specs.Prelude.{ℕ, if◌then◌else◌, not, List, [], ◌∷◌, ◌++◌, length, fold, ◌==◌, nat_lt}
 use Rattle.limits.specs.Questions.{Questions, first_no}
 use Rattle.limits.specs.Range.{within}
 use Rattle.plan.specs.declared.call.Call.{Call}
@@ -48,7 +48,7 @@ answer st call = first_no (questions st call)
 
 -- what stands after a call: a refused one changes nothing
 abbrev pub after : Standing → Call → Standing
-after st call = cond (answer st call == 0) (effect st call) st
+after st call = if answer st call == 0 then effect st call else st
 
 -- what stands after a list of calls, one after the other from nothing
 abbrev pub ledger : List Call → Standing

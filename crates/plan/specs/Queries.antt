@@ -1,5 +1,5 @@
 -- What is asked of a plan without changing it: the questions of each call, and what it tells or writes.
-use Rattle.std.specs.Prelude.{◌≡◌, ℕ, ◌<◌, Bool, true, cond, not, ◌&&◌, List, [], ◌∷◌, length, Some, None, Option, ◌==◌, slice_index, slice_index_or}
+use Rattle.std.specs.Prelude.{◌≡◌, ℕ, ◌<◌, Bool, true, if◌then◌else◌, not, ◌&&◌, List, [], ◌∷◌, length, Some, None, Option, ◌==◌, slice_index, slice_index_or}
 use Rattle.limits.specs.declared.pair.Pair.{Pair}
 use Rattle.limits.specs.Lawful.{lawful}
 use Rattle.limits.specs.Questions.{first_no}
@@ -24,7 +24,7 @@ pairs_answer st link = first_no ((6, stands st link) ∷ (13, has_flow st link) 
 -- the lent place after the call: the candidate at each gap, or as it was where the call is refused
 abbrev pub pairs_written : List ℕ → Standing → ℕ → List (Option Pair) → List (Option Pair)
 pairs_written gaps st link before =
-    cond (pairs_answer st link == 0) (candidates gaps (flows_of st link)) before
+    if pairs_answer st link == 0 then candidates gaps (flows_of st link) else before
 
 -- the link has no flow
 abbrev pub lacks_flow : List Flow → ℕ → Bool

@@ -1,5 +1,5 @@
 -- Questions that tell a detail.
-use Rattle.std.specs.Prelude.{ℕ, suc, Bool, cond, List, [], ◌∷◌, Some, None, Option}
+use Rattle.std.specs.Prelude.{ℕ, suc, Bool, if◌then◌else◌, List, [], ◌∷◌, Some, None, Option}
 use Rattle.std.specs.Option.{option_map}
 
 -- each question's number, and the detail of what fails it first, if anything does
@@ -19,4 +19,4 @@ refusal (q ∷ qs) = told_or q.0 (refusal qs) q.1
 -- the place, from 1, of the first element that fails the test
 abbrev pub first_failing : {X : Type 0} → (X → Bool) → List X → Option ℕ
 first_failing test [] = None
-first_failing test (x ∷ xs) = cond (test x) (option_map suc (first_failing test xs)) (Some 1)
+first_failing test (x ∷ xs) = if test x then option_map suc (first_failing test xs) else Some 1

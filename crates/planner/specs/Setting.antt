@@ -1,8 +1,8 @@
 -- A setting made elsewhere: what it is asked.
-use Rattle.std.specs.Prelude.{ℕ, Bool, true, false, cond, ◌&&◌, List, [], ◌∷◌, map, Some, None, Option, ◌==◌}
+use Rattle.std.specs.Prelude.{ℕ, Bool, if◌then◌else◌, List, [], ◌∷◌, map, Some, None, Option, ◌==◌, nat_eq}
+use Rattle.std.specs.Cmp.Lexicographic.{pointwise}
 use Rattle.limits.specs.declared.pair.Pair.{Pair}
-use Rattle.limits.specs.Lawful.{mtu_min, mtu_max}
-use Rattle.limits.specs.Range.{within, among}
+use Rattle.limits.specs.Lawful.{lawful_gap, lawful_mtu}
 use Rattle.plan.specs.Message.{meets}
 use Rattle.plan.specs.Queries.{first_without_flow}
 use Rattle.plan.specs.Standing.{Standing, flows_of}
@@ -13,20 +13,17 @@ use Rattle.planner.specs.Asked.{Asked, first_failing}
 abbrev pub pairs : List Row → List Pair
 pairs rows = map (λ row. row.pair) rows
 
--- the rows are as many as the links, and name them in their order
+-- the rows name the links, each once and in their order
 abbrev pub name_links : List ℕ → List Row → Bool
-name_links [] [] = true
-name_links [] (row ∷ rows) = false
-name_links (link ∷ links) [] = false
-name_links (link ∷ links) (row ∷ rows) = row.link == link && name_links links rows
+name_links links rows = pointwise nat_eq (map (λ row. row.link) rows) links
 
 -- the gap of the row is one of the gaps
 abbrev pub gap_lawful : List ℕ → Row → Bool
-gap_lawful gaps row = among gaps row.pair.gap
+gap_lawful gaps row = lawful_gap gaps row.pair
 
 -- the MTU of the row is in range
 abbrev pub mtu_lawful : Row → Bool
-mtu_lawful row = within mtu_min mtu_max row.pair.mtu
+mtu_lawful row = lawful_mtu row.pair
 
 -- the pair of the row meets the message rule of its link
 abbrev pub messages_served : Standing → Row → Bool
@@ -34,11 +31,11 @@ messages_served st row = meets (flows_of st row.link) row.pair.gap row.pair.mtu
 
 -- nothing where the test holds, else 0, for a question that tells no detail
 abbrev pub plainly : Bool → Option ℕ
-plainly holds = cond holds None (Some 0)
+plainly holds = if holds then None else Some 0
 
 -- a breach, if it is one
 abbrev pub if_any : ℕ → Option ℕ
-if_any breach = cond (breach == 0) None (Some breach)
+if_any breach = if breach == 0 then None else Some breach
 
 -- what the rows are asked, each question of every row before the next: is the gap one of the gaps, is the MTU in range,
 -- does the message rule hold, and are the pairs within the limit?
