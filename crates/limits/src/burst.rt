@@ -28,7 +28,7 @@ impl Measure for Burst {
 
     ghost lowered = { λ m xs ys _ sel low. smaller_burst (burst xs) (burst ys) (burst_adds.lowers xs ys sel low) (reserve_adds.lowers xs ys sel low) };
 
-    #[tactic(auto, unfolding(crate::specs::Sums::burst_bytes, crate::specs::Sums::reserve))]
+    #[tactic(auto, using(crate::specs::SumLaws::burst_adds, crate::specs::SumLaws::reserve_adds))]
     fn empty_total(&self) -> BurstTotal {
         BurstTotal { bytes: 0, units: 0 }
     }

@@ -4,6 +4,9 @@ ghost use Rattle.limits.specs.Selection.{Lawful};
 
 use crate::pair::Pair;
 
+/// How many units make one kbit/s: what is reserved is told in units of 1/16 kbit/s.
+pub const UNITS_PER_KBIT: u64 = 16;
+
 /// The bytes of a frame beside those of the message.
 const FRAME_OVERHEAD: u32 = 67;
 
@@ -22,6 +25,7 @@ impl Pair {
         requires { Lawful self }
         ensures { result ≡ units self }
     {
+        // 8 bits a byte, and 16 units a kbit/s
         self.frame_bytes() * 128 / u32::from(self.gap)
     }
 }

@@ -12,8 +12,7 @@ use crate::limit::Limit;
 use crate::pair::Pair;
 
 /// Admits what a port of so many kbit/s sends within 460 microseconds, one frame of every link. The load is the bytes so far.
-///
-/// `Share` has the same shape. One type for both would take a figure and two factors as parameters, and is no plainer.
+// `Share` has the same shape. One type for both would take a figure and two factors as parameters, and is no plainer.
 #[derive(Clone, Copy, Debug, PartialEq, Eq)]
 pub struct Jitter {
     pub rate: u32,
@@ -30,7 +29,7 @@ impl Limit for Jitter {
 
     ghost lowered = { λ l xs ys _ sel low h. still_within (within_jitter l.rate ys) _ (less_within (400 * burst_bytes xs) _ (23 * l.rate) (mul-le-mul_left 400 (burst_adds.lowers xs ys sel low))) h };
 
-    #[tactic(auto, unfolding(crate::specs::Sums::burst_bytes))]
+    #[tactic(auto, using(crate::specs::SumLaws::burst_adds))]
     fn empty_load(&self) -> u32 {
         0
     }
@@ -40,6 +39,7 @@ impl Limit for Jitter {
     }
 
     fn breach_of(&self, load: u32) -> u32 {
+        // 8 × bytes / rate is at most 0.46 ms, with both sides multiplied by 50 × rate
         let most = 23 * u64::from(self.rate);
         breach_unless(400 * u64::from(load) <= most)
     }

@@ -1,4 +1,7 @@
+ghost use Rattle.std.specs.Prelude.{◌≡◌, ◌↔◌, List};
+ghost use Rattle.limits.specs.declared.pair.Pair.{Pair};
 ghost use Rattle.limits.specs.Breach.{stacked};
+ghost use Rattle.limits.specs.Selection.{Selection};
 ghost use Rattle.std.proofs.Common.{rules};
 
 use crate::breach::stack;
@@ -48,7 +51,14 @@ impl<R: Limit, L: Limit> Limit for Layer<R, L> {
         }
     }
 
-    fn breach_of(&self, load: LayerLoad<R::Load, L::Load>) -> u32 {
+    // As the trait asks, and besides: a layer admits exactly what its rule and the limit below both admit.
+    fn breach_of(&self, load: LayerLoad<R::Load, L::Load>) -> u32
+        requires { (s : List Pair) × (load ≡ record { rule = R.loaded self.now.rule s; below = L.loaded self.now.below s }) × Selection s }
+        ensures told { (s : List Pair) → load ≡ record { rule = R.loaded self.now.rule s; below = L.loaded self.now.below s } →
+            Selection s → result ≡ stacked (R.breach self.now.rule s) (L.breach self.now.below s) }
+        ensures both { (s : List Pair) → load ≡ record { rule = R.loaded self.now.rule s; below = L.loaded self.now.below s } →
+            Selection s → (result ≡ 0) ↔ ((R.breach self.now.rule s ≡ 0) × (L.breach self.now.below s ≡ 0)) }
+    {
         let own = self.rule.breach_of(load.rule);
         let below = self.below.breach_of(load.below);
         stack(own, below)

@@ -6,8 +6,7 @@ ghost use Rattle.limits.specs.Taken.{MayTake, Takes};
 use crate::pair::Pair;
 
 /// What a port admits. A limit gives every selection a load and a breach; breach 0 is within the limit.
-///
-/// A load is kept as `Measure` keeps a total. The two stay apart, since others write against each as it is.
+// A load is kept as `Measure` keeps a total. The two stay apart, since others write against each as it is.
 pub trait Limit {
     /// What is kept of a selection to tell its breach and the load with one more pair.
     type Load: Copy;
@@ -27,7 +26,7 @@ pub trait Limit {
         requires { MayTake (loaded self.now) load pair }
         ensures { Takes (loaded self.now) load pair result };
 
-    /// The breach of a selection, from its load. It stays a number: laws and definitions stand on it, layers count it up, and a refusal tells it.
+    /// The breach of a selection, from its load: a number, since layers count it up and a refusal tells it.
     fn breach_of(&self, load: Self::Load) -> u32
         requires { (s : List Pair) × (load ≡ loaded self.now s) × Selection s }
         ensures { (s : List Pair) → load ≡ loaded self.now s → Selection s → result ≡ breach self.now s };

@@ -6,8 +6,7 @@ ghost use Rattle.limits.specs.Taken.{MayTake, Takes};
 use crate::pair::Pair;
 
 /// What a selection costs. A measure gives every selection a total, and compares any two totals.
-///
-/// A total is kept as `Limit` keeps a load. The two stay apart, since others write against each as it is.
+// A total is kept as `Limit` keeps a load. The two stay apart, since others write against each as it is.
 pub trait Measure {
     /// What a selection comes to.
     type Total: Copy;

@@ -27,7 +27,7 @@ impl Measure for Reserve {
 
     ghost lowered = { λ m xs ys _ sel low. le-leb (reserve xs) (reserve ys) (reserve_adds.lowers xs ys sel low) };
 
-    #[tactic(auto, unfolding(crate::specs::Sums::reserve))]
+    #[tactic(auto, using(crate::specs::SumLaws::reserve_adds))]
     fn empty_total(&self) -> u32 {
         0
     }

@@ -1,4 +1,4 @@
-ghost use Rattle.std.specs.Prelude.{◌≡◌, Decides};
+ghost use Rattle.std.specs.Prelude.{◌≡◌, ◌↔◌, IsTrue};
 ghost use Rattle.limits.specs.Judged.{judged};
 ghost use Rattle.limits.specs.Selection.{Selection};
 
@@ -58,7 +58,7 @@ fn total_of_selection<M: Measure>(measure: &M, pairs: &[Pair]) -> M::Total
 
 /// Are the pairs a selection?
 fn is_selection(pairs: &[Pair]) -> bool
-    ensures { Decides result (Selection pairs.now) }
+    ensures { IsTrue result ↔ Selection pairs.now }
 {
     pairs.len() <= MAX_PAIRS && pairs.iter().all(|pair| pair.is_lawful())
 }

@@ -7,12 +7,12 @@ ghost use Rattle.limits.specs.SumLaws.{reserve_adds};
 
 use crate::breach::breach_unless;
 use crate::figure::{Units, with_pair};
+use crate::frame::UNITS_PER_KBIT;
 use crate::limit::Limit;
 use crate::pair::Pair;
 
 /// Admits what reserves at most so many kbit/s. The load is what is reserved so far, in units of 1/16 kbit/s.
-///
-/// `Jitter` has the same shape. One type for both would take a figure and two factors as parameters, and is no plainer.
+// `Jitter` has the same shape. One type for both would take a figure and two factors as parameters, and is no plainer.
 #[derive(Clone, Copy, Debug, PartialEq, Eq)]
 pub struct Share {
     pub rate: u32,
@@ -29,7 +29,7 @@ impl Limit for Share {
 
     ghost lowered = { λ l xs ys _ sel low h. still_within (within_share l.rate ys) _ (less_within (reserve xs) _ (16 * l.rate) (reserve_adds.lowers xs ys sel low)) h };
 
-    #[tactic(auto, unfolding(crate::specs::Sums::reserve))]
+    #[tactic(auto, using(crate::specs::SumLaws::reserve_adds))]
     fn empty_load(&self) -> u32 {
         0
     }
@@ -39,6 +39,6 @@ impl Limit for Share {
     }
 
     fn breach_of(&self, load: u32) -> u32 {
-        breach_unless(u64::from(load) <= 16 * u64::from(self.rate))
+        breach_unless(u64::from(load) <= UNITS_PER_KBIT * u64::from(self.rate))
     }
 }
