@@ -1,16 +1,17 @@
 -- The rules of a port in exact fractions are those in whole units and bytes.
-use Rattle.std.proofs.Common.{◌≡◌, ℕ, ◌+◌, ◌*◌, ◌<◌, ◌≤◌, List, [], ◌∷◌, map, sym, ap, ◌∙◌, mul_assoc, mul_comm, add-mul, mul-le-mul_left, mul-pos, mul-add, mul_right_comm, arith}
+use Rattle.std.proofs.Common.{◌≡◌, ℕ, ◌+◌, ◌*◌, ◌<◌, ◌≤◌, List, [], ◌∷◌, map, sum_by, sym, ap, ◌∙◌, mul_assoc, mul_comm, add-mul, mul-le-mul_left, mul-pos, mul-add, mul_right_comm, arith}
 use native.Mathlib.Nat.{le_of_mul-le-mul_left}
 use Rattle.std.specs.List.{AllByRecursion}
 use Rattle.std.proofs.lemmas.Bool.{leb-true, le-leb}
+use Rattle.std.proofs.lemmas.List.Sums.{sum_by-cons}
 use Rattle.std.proofs.lemmas.Bool.Decides.{same_from_decides}
 use Rattle.limits.specs.declared.pair.Pair.{Pair}
 use Rattle.limits.specs.Frame.{frame, units}
 use Rattle.limits.specs.Rules.{within_share, within_jitter}
 use Rattle.limits.specs.Selection.{Lawful}
-use Rattle.limits.specs.Sums.{reserve}
+use Rattle.limits.specs.Sums.{burst_bytes, reserve}
 use Rattle.limits.specs.FrameLaws.{gap_positive, units_exact}
-use Rattle.limits.specs.SumLaws.{reserve_adds}
+use Rattle.limits.specs.SumLaws.{burst_adds, reserve_adds}
 use Rattle.plan.specs.Fraction.{total}
 use Rattle.planner.specs.Field.{bytes_per_ms, bandwidth_kept, jitter_kept}
 
@@ -54,7 +55,13 @@ bandwidth_exact share s h =
     (λ t. to_units _ _ _ share e (den_positive s h) (leb-true _ _ t), λ le. le-leb _ _ (to_fraction _ _ _ share e le))
     (λ t. leb-true _ _ t, λ le. le-leb _ _ le)
 
+-- the bytes of one frame of every pair, added up
+bytes_added : (s : List Pair) → burst_bytes s ≡ sum_by frame s
+bytes_added [] = burst_adds.none
+bytes_added (p ∷ s) = burst_adds.cons p s ∙ ap (λ x. frame p + x) (bytes_added s) ∙ sym (sum_by-cons frame p s)
+
 pub jitter_exact : (rate : ℕ) (s : List Pair) → jitter_kept rate s ≡ within_jitter rate s
 jitter_exact rate s =
+    let bytes = bytes_added s in
     same_from_decides (jitter_kept rate s) (within_jitter rate s)
-    (λ t. let le = leb-true _ _ t in omega arith, λ le. le-leb _ _ (omega arith)) (λ t. leb-true _ _ t, λ le. le-leb _ _ le)
+    (λ t. let le = leb-true _ _ t in omega (arith, bytes), λ le. le-leb _ _ (omega (arith, bytes))) (λ t. leb-true _ _ t, λ le. le-leb _ _ le)

@@ -1,12 +1,11 @@
 -- A setting at a port, in the terms of the field and in exact fractions.
-use Rattle.std.specs.Prelude.{◌≡◌, ℕ, ◌*◌, Bool, false, ◌&&◌, List, [], ◌∷◌, map, ◌==◌}
+use Rattle.std.specs.Prelude.{◌≡◌, ℕ, ◌*◌, Bool, false, ◌&&◌, List, [], ◌∷◌, map, sum_by, ◌==◌}
 use Rattle.limits.specs.declared.pair.Pair.{Pair}
 use Rattle.limits.specs.declared.port.Port.{Port}
 use Rattle.limits.specs.Frame.{frame}
 use Rattle.limits.specs.Range.{among}
 use Rattle.std.specs.List.{list_all}
 use Rattle.limits.specs.Rules.{above_floor}
-use Rattle.limits.specs.Sums.{burst_bytes}
 use Rattle.plan.specs.Fraction.{Fraction, over, plus, total, at_most}
 use Rattle.plan.specs.Standing.{Standing}
 use Rattle.planner.specs.declared.row.Row.{Row}
@@ -26,7 +25,7 @@ bandwidth_kept share s = at_most (times 8 (times 1000 (total (map bytes_per_ms s
 
 -- a frame waits at most 500 microseconds: 40 in the hardware, and while one frame of every link is sent at the rate in bit/s
 abbrev pub jitter_kept : ℕ → List Pair → Bool
-jitter_kept rate s = at_most (plus (over 40 1000000) (over (8 * burst_bytes s) (rate * 1000))) (over 500 1000000)
+jitter_kept rate s = at_most (plus (over 40 1000000) (over (8 * sum_by frame s) (rate * 1000))) (over 500 1000000)
 
 -- the message rule of every link, the bandwidth, the jitter and the floor are kept
 abbrev pub field_rules : Port → Standing → List Row → Bool

@@ -2,6 +2,7 @@ ghost use Rattle.std.specs.Prelude.{◌≡◌, ◌≤◌, true, length};
 ghost use Rattle.limits.specs.Gaps.{eight_gaps};
 ghost use Rattle.limits.specs.Selection.{Selection, max_pairs};
 ghost use Rattle.plan.specs.Held.{standing};
+ghost use Rattle.plan.specs.Queries.{served};
 ghost use Rattle.planner.specs.Asked.{refusal};
 ghost use Rattle.planner.specs.Setting.{pairs, name_links, if_any, row_questions, setting_questions};
 ghost use Rattle.planner.specs.SettingFault.{told};
@@ -37,13 +38,20 @@ fn check_rows<L: Limit>(plan: &Plan, limit: &L, rows: &[Row]) -> Result<(), Sett
     if let Some(row) = first_failing(rows, |row| row.pair.has_lawful_mtu()) {
         return Err(SettingFault::MtuUnlawful { row });
     }
-    if let Some(row) = first_failing(rows, |row| plan.is_served(row.link, row.pair)) {
+    if let Some(row) = first_failing(rows, |row| is_row_served(plan, row)) {
         return Err(SettingFault::MessagesUnserved { row });
     }
     if let Some(breach) = breach_of_rows(limit, rows) {
         return Err(SettingFault::NotWithin { breach });
     }
     Ok(())
+}
+
+/// Does the pair of the row serve the link of the row?
+fn is_row_served(plan: &Plan, row: &Row) -> bool
+    ensures { result ≡ served eight_gaps (standing plan.now) row.now.link row.now.pair }
+{
+    plan.is_served(row.link, row.pair)
 }
 
 /// Are the rows as many as the links, and do they name them in their order?
