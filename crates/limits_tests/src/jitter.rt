@@ -32,3 +32,13 @@ fn jitter_at_no_rate_and_at_the_highest(rt: HostRuntime) {
     assert_eq!(rt; breach_of_pairs(&Jitter { rate: 0 }, &least), Some(1));
     assert_eq!(rt; breach_of_pairs(&Jitter { rate: u32::MAX }, &most), Some(0));
 }
+
+// 23 × 186,737,709 is 11 where the upper half of the product is cut off.
+#[test]
+fn jitter_whose_product_needs_more_than_32_bits(rt: HostRuntime) {
+    let most = [Pair { gap: 1, mtu: 1471 }; 64];
+    assert_eq!(rt;
+        breach_of_pairs(&Jitter { rate: 186_737_709 }, &most),
+        Some(0)
+    );
+}

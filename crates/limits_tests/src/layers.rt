@@ -84,6 +84,21 @@ fn layers_lie_in_any_order(rt: HostRuntime) {
     assert_eq!(rt; breach_of_pairs(&turned(8, 168, 1461), &pairs), Some(3));
 }
 
+// A rule that is a layer itself fails as one.
+#[test]
+fn any_limit_may_be_a_rule(rt: HostRuntime) {
+    let pairs = [Pair { gap: 4, mtu: 17 }];
+    let rule = Layer {
+        rule: Floor { gap: 4 },
+        below: Share { rate: 167 },
+    };
+    assert_eq!(rt; breach_of_pairs(&rule, &pairs), Some(2));
+    assert_eq!(rt;
+        breach_of_pairs(&Layer { rule, below: Open }, &pairs),
+        Some(1)
+    );
+}
+
 #[test]
 fn the_breach_stops_at_its_greatest_value(rt: HostRuntime) {
     let pairs = [Pair { gap: 4, mtu: 17 }];

@@ -24,3 +24,13 @@ fn share_of_nothing_and_of_everything(rt: HostRuntime) {
     assert_eq!(rt; breach_of_pairs(&Share { rate: 0 }, &least), Some(1));
     assert_eq!(rt; breach_of_pairs(&Share { rate: u32::MAX }, &most), Some(0));
 }
+
+// 16 × 268,435,456 is 0 where the upper half of the product is cut off.
+#[test]
+fn share_whose_units_need_more_than_32_bits(rt: HostRuntime) {
+    let most = [Pair { gap: 1, mtu: 1471 }; 64];
+    assert_eq!(rt;
+        breach_of_pairs(&Share { rate: 268_435_456 }, &most),
+        Some(0)
+    );
+}

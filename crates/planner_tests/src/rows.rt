@@ -1,5 +1,5 @@
 use crate::plans::{one_byte_each, row, two_links};
-use limits::Open;
+use limits::{Floor, Jitter, Layer, Open, Share};
 use plan::Plan;
 use planner::{Row, SettingFault, check_setting};
 use std::process::Abort;
@@ -125,4 +125,28 @@ fn a_question_is_asked_of_every_row_before_the_next(rt: HostRuntime) -> Result<(
         &[row(1, 1, 4), row(2, 1, 6)],
         Err(SettingFault::MessagesUnserved { row: 1 }),
     )
+}
+
+// The pairs reserve 146.25 kbit/s, and their frames need 7,843.5 kbit/s. Jitter is the first rule here, and the share the last.
+#[test]
+fn a_setting_is_checked_under_any_limit(rt: HostRuntime) -> Result<(), Fail> {
+    let plan = two_links()?;
+    let rows = [row(1, 16, 67), row(2, 32, 250)];
+    assert_eq!(rt; check_setting(&plan, &Share { rate: 147 }, &rows), Ok(()));
+    assert_eq!(rt;
+        check_setting(&plan, &Share { rate: 146 }, &rows),
+        Err(SettingFault::NotWithin { breach: 1 })
+    );
+    let limit = Layer {
+        rule: Jitter { rate: 7844 },
+        below: Layer {
+            rule: Floor { gap: 16 },
+            below: Share { rate: 146 },
+        },
+    };
+    assert_eq!(rt;
+        check_setting(&plan, &limit, &rows),
+        Err(SettingFault::NotWithin { breach: 3 })
+    );
+    Ok(())
 }

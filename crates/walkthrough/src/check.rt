@@ -1,6 +1,6 @@
 use crate::frames::frames_of_link;
 use crate::notes::{print_accepted, print_refused};
-use limits::{Burst, Port, total_of_pairs};
+use limits::{Burst, Port, UNITS_PER_KBIT, total_of_pairs};
 use plan::Plan;
 use planner::{Row, SettingFault, check_port_setting};
 use std::io;
@@ -60,7 +60,8 @@ fn layer_name(breach: u32) -> &'static str {
     match breach {
         1 => "floor",
         2 => "share",
-        _ => "jitter",
+        3 => "jitter",
+        _ => "limit below",
     }
 }
 
@@ -84,11 +85,12 @@ fn print_use(rt: &impl Print, port: Port, rows: &[Row; 2]) -> io::Result<()> {
     let Some(total) = total_of_pairs(&Burst, &rows.map(|row| row.pair)) else {
         return Ok(());
     };
-    let share = 16 * u64::from(port.share());
+    let share = UNITS_PER_KBIT * u64::from(port.share());
     println!(rt;
         "   reserved: {} units of 1/16 kbit/s, and the share is {share}",
         total.units
     )?;
+    // 8 × bytes / rate is at most 0.46 ms
     let room = 23 * u64::from(port.rate()) / 400;
     println!(rt;
         "   one frame of each link: {} bytes, and the port sends {room} in 460 microseconds",
