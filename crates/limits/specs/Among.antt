@@ -5,6 +5,7 @@ use Rattle.std.specs.List.{AllByRecursion}
 use Rattle.std.proofs.lemmas.Bool.{eq-eqb, eqb-true, or_left, or_right, or_cases, false≢true}
 use Rattle.limits.specs.Range.{among}
 
+-- each number of a list is among it
 pub among-get_or : (xs : List ℕ) (k : ℕ) → k < length xs → among xs (slice_index xs k) ≡ true
 among-get_or [] k h = absurd (omega arith)
 among-get_or (x ∷ xs) zero h = or_left _ _ (eq-eqb x x refl)

@@ -17,6 +17,7 @@ use Rattle.limits.specs.Within.{le_from_within}
 abbrev divides_128 : ℕ → Bool
 divides_128 g = nat_lt 0 g && 128 % g == 0
 
+-- so is the gap of a lawful pair
 gap_divides_128 : (p : Pair) → Lawful p → divides_128 p.gap ≡ true
 gap_divides_128 p h =
     all_among (λ g. divides_128 g ≡ true) eight_gaps p.gap (all_from_every divides_128 eight_gaps refl) (and_parts _ _ h).0
@@ -24,33 +25,38 @@ gap_divides_128 p h =
 pub gap_positive : (p : Pair) → Lawful p → 0 < p.gap
 gap_positive p h = ltb-true 0 p.gap (and_parts _ _ (gap_divides_128 p h)).0
 
+-- the MTU of a lawful pair is at most the largest
 mtu_most : (p : Pair) → Lawful p → p.mtu ≤ mtu_max
 mtu_most p h = (le_from_within mtu_min mtu_max p.mtu (and_parts _ _ h).1).1
 
 -- ---- frame bytes
--- no frame of a lawful pair has more bytes; that of MTU 1,471 has as many
+-- the bytes of the longest frame, which is that of MTU 1,471
 abbrev pub max_frame : ℕ
 max_frame = 1538
 
+-- a frame with a lower MTU has no more bytes
 pub frame_rises : (p q : Pair) → Lower p q → frame p ≤ frame q
 unfolding frame_bytes
 frame_rises p q low = omega arith
 
+-- no frame of a lawful pair exceeds that
 pub frame_most : (p : Pair) → Lawful p → frame p ≤ max_frame
 unfolding frame_bytes
 frame_most p h = omega (arith, mtu_most p h)
 
 -- ---- units
--- no lawful pair reserves more; that of gap 1 and MTU 1,471 reserves as much
+-- the most units that a lawful pair reserves, which are those of gap 1 and MTU 1,471
 abbrev pub max_units : ℕ
 max_units = 196864
 
+-- a pair with a lower MTU reserves no more
 pub units_rise : (p q : Pair) → Lawful q → Lower p q → units p ≤ units q
 unfolding units
 units_rise p q h low =
     let more = mul-le-mul_right 128 (frame_rises p q low) in
     rw low.0 ((le-div_iff_mul-le (gap_positive q h)).1 (le_trans (div-mul-le_self (frame p * 128) q.gap) more))
 
+-- no lawful pair reserves more than that
 pub units_most : (p : Pair) → Lawful p → units p ≤ max_units
 unfolding units
 units_most p h = let less = frame_most p h in le_trans (div-le_self (frame p * 128) p.gap) (omega arith)

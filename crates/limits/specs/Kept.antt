@@ -4,14 +4,17 @@ use Rattle.std.proofs.Common.{le_trans, arith}
 use Rattle.std.proofs.lemmas.Bool.{leb-true, le-leb, false≢true}
 use Rattle.limits.specs.Breach.{unless}
 
+-- breach 0 says that the rule holds
 pub holds_from_unless : (b : Bool) → unless b ≡ 0 → b ≡ true
 holds_from_unless true h = refl
 holds_from_unless false h = absurd (omega arith)
 
+-- a rule that holds has breach 0
 pub unless_from_holds : (b : Bool) → b ≡ true → unless b ≡ 0
 unless_from_holds true h = refl
 unless_from_holds false h = absurd (false≢true h)
 
+-- a rule that holds where another did has breach 0 where that had
 pub still_within : (old new : Bool) → (old ≡ true → new ≡ true) → unless old ≡ 0 → unless new ≡ 0
 still_within old new keeps h = unless_from_holds new (keeps (holds_from_unless old h))
 

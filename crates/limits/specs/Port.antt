@@ -30,7 +30,7 @@ port_limit port = record {
   };
 }
 
--- the breach of a selection under such layers
+-- the breach of a selection under such layers, written out for the three rules
 abbrev pub layers_breach : PortLayers → List Pair → ℕ
 layers_breach l s =
     stacked (unless (above_floor l.rule.gap s))

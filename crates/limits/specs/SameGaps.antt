@@ -4,6 +4,7 @@ use Rattle.limits.specs.declared.pair.Pair.{Pair}
 use Rattle.limits.specs.Rules.{above_floor}
 use Rattle.limits.specs.Selection.{Lowered}
 
+-- the floor says of both lists the same
 pub same_floor : (d : ℕ) (xs ys : List Pair) → Lowered xs ys → above_floor d xs ≡ above_floor d ys
 same_floor d [] [] low = refl
 same_floor d [] (y ∷ ys) low = absurd low
