@@ -1,9 +1,9 @@
--- What a frame takes on the wire, and what a pair reserves of the port. What rests on these uses their laws
+-- What a frame counts with, and what a pair reserves of the port. What rests on these uses their laws
 -- (FrameLaws.antt): both rise with the MTU, and each has a greatest value.
 use Rattle.std.specs.Prelude.{ℕ, ◌+◌, ◌*◌, ◌/◌}
 use Rattle.limits.specs.declared.pair.Pair.{Pair}
 
--- the bytes that a frame with m bytes of a message takes
+-- the bytes that a frame with m bytes of a message counts with; its padding, where it is short, is not among them
 unfoldable pub frame_bytes : ℕ → ℕ
 frame_bytes m = m + 67
 
