@@ -3,7 +3,7 @@
 use Rattle.std.specs.Prelude.{ℕ, ◌+◌, ◌*◌, ◌/◌}
 use Rattle.limits.specs.declared.pair.Pair.{Pair}
 
--- the bytes that a frame with m bytes of a message counts with; its padding, where it is short, is not among them
+-- the bytes that a frame with m bytes of a message counts with; the padding of a short frame is not among them
 unfoldable pub frame_bytes : ℕ → ℕ
 frame_bytes m = m + 67
 

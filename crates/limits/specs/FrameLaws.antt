@@ -13,15 +13,16 @@ use Rattle.limits.specs.Every.{all_from_every}
 use Rattle.limits.specs.Within.{le_from_within}
 
 -- ---- what the gap and the MTU of a lawful pair are
--- a gap is positive and divides 128
+-- a number is positive and divides 128
 abbrev divides_128 : ℕ → Bool
 divides_128 g = nat_lt 0 g && 128 % g == 0
 
--- so is the gap of a lawful pair
+-- the gap of a lawful pair is such a number
 gap_divides_128 : (p : Pair) → Lawful p → divides_128 p.gap ≡ true
 gap_divides_128 p h =
     all_among (λ g. divides_128 g ≡ true) eight_gaps p.gap (all_from_every divides_128 eight_gaps refl) (and_parts _ _ h).0
 
+-- so it is positive
 pub gap_positive : (p : Pair) → Lawful p → 0 < p.gap
 gap_positive p h = ltb-true 0 p.gap (and_parts _ _ (gap_divides_128 p h)).0
 

@@ -14,6 +14,7 @@ pub mod Told
 pub mod PortFigures
 pub mod PortFault
 pub mod Port
+pub mod Layer
 pub mod BurstOrder
 pub mod SumLaws
 pub mod FrameLaws

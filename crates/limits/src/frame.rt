@@ -11,7 +11,7 @@ pub const UNITS_PER_KBIT: u64 = 16;
 const FRAME_OVERHEAD: u32 = 67;
 
 impl Pair {
-    /// The bytes that one frame counts with: its padding, where it is short, is not among them.
+    /// The bytes that one frame counts with; the padding of a short frame is not among them.
     #[tactic(auto, unfolding(crate::specs::Frame::frame_bytes))]
     pub fn frame_bytes(self) -> u32
         ensures { result ≡ frame self }

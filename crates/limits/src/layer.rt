@@ -1,7 +1,6 @@
-ghost use Rattle.std.specs.Prelude.{◌≡◌, ◌↔◌, List};
-ghost use Rattle.limits.specs.declared.pair.Pair.{Pair};
+ghost use Rattle.std.specs.Prelude.{◌≡◌, ◌↔◌};
 ghost use Rattle.limits.specs.Breach.{stacked};
-ghost use Rattle.limits.specs.Selection.{Selection};
+ghost use Rattle.limits.specs.Taken.{IsKept, HoldsOfKept};
 ghost use Rattle.std.proofs.Common.{rules};
 
 use crate::breach::stack;
@@ -23,9 +22,12 @@ pub struct LayerLoad<A, B> {
 }
 
 impl<R: Limit, L: Limit> Limit for Layer<R, L> {
+    // here, since it speaks of the types of this file
+    ghost use Rattle.limits.specs.Layer.{layer_load};
+
     type Load = LayerLoad<R::Load, L::Load>;
 
-    ghost loaded = { λ l s. record { rule = R.Limit.loaded l.rule s; below = L.Limit.loaded l.below s } };
+    ghost loaded = { λ l s. layer_load (R.Limit.loaded l.rule) (L.Limit.loaded l.below) s };
 
     ghost breach = { λ l s. stacked (R.Limit.breach l.rule s) (L.Limit.breach l.below s) };
 
@@ -53,11 +55,11 @@ impl<R: Limit, L: Limit> Limit for Layer<R, L> {
 
     // As the trait asks, and besides: a layer admits exactly what its rule and the limit below both admit.
     fn breach_of(&self, load: LayerLoad<R::Load, L::Load>) -> u32
-        requires { (s : List Pair) × (load ≡ record { rule = R.loaded self.now.rule s; below = L.loaded self.now.below s }) × Selection s }
-        ensures told { (s : List Pair) → load ≡ record { rule = R.loaded self.now.rule s; below = L.loaded self.now.below s } →
-            Selection s → result ≡ stacked (R.breach self.now.rule s) (L.breach self.now.below s) }
-        ensures both { (s : List Pair) → load ≡ record { rule = R.loaded self.now.rule s; below = L.loaded self.now.below s } →
-            Selection s → (result ≡ 0) ↔ ((R.breach self.now.rule s ≡ 0) × (L.breach self.now.below s ≡ 0)) }
+        requires { IsKept (layer_load (R.loaded self.now.rule) (L.loaded self.now.below)) load }
+        ensures told { HoldsOfKept (layer_load (R.loaded self.now.rule) (L.loaded self.now.below)) load
+            (λ s. result ≡ stacked (R.breach self.now.rule s) (L.breach self.now.below s)) }
+        ensures both { HoldsOfKept (layer_load (R.loaded self.now.rule) (L.loaded self.now.below)) load
+            (λ s. (result ≡ 0) ↔ ((R.breach self.now.rule s ≡ 0) × (L.breach self.now.below s ≡ 0))) }
     {
         let own = self.rule.breach_of(load.rule);
         let below = self.below.breach_of(load.below);

@@ -1,7 +1,7 @@
 ghost use Rattle.std.specs.Prelude.{◌≡◌, ℕ, List, [], ◌++◌};
 ghost use Rattle.limits.specs.declared.pair.Pair.{Pair};
 ghost use Rattle.limits.specs.Selection.{Selection, Lowered};
-ghost use Rattle.limits.specs.Taken.{MayTake, Takes};
+ghost use Rattle.limits.specs.Taken.{IsKept, HoldsOfKept, MayTake, Takes};
 
 use crate::pair::Pair;
 
@@ -28,8 +28,8 @@ pub trait Limit {
 
     /// The breach of a selection, from its load: a number, since layers count it up and a refusal tells it.
     fn breach_of(&self, load: Self::Load) -> u32
-        requires { (s : List Pair) × (load ≡ loaded self.now s) × Selection s }
-        ensures { (s : List Pair) → load ≡ loaded self.now s → Selection s → result ≡ breach self.now s };
+        requires { IsKept (loaded self.now) load }
+        ensures { HoldsOfKept (loaded self.now) load (λ s. result ≡ breach self.now s) };
 
     /// A beginning of a selection within is within.
     ghost beginning: { (l : Self) (xs ys : List Pair) → Selection (xs ++ ys) → breach l (xs ++ ys) ≡ 0 → breach l xs ≡ 0 };
