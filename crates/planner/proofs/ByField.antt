@@ -17,7 +17,7 @@ use Rattle.plan.specs.Standing.{Standing}
 use Rattle.planner.specs.declared.row.Row.{Row}
 use Rattle.planner.specs.Asked.{told_or, refusal, first_failing}
 use Rattle.planner.specs.Field.{bandwidth_kept, jitter_kept, JudgedByField}
-use Rattle.planner.specs.Setting.{pairs, name_links, gap_lawful, mtu_lawful, messages_served, plainly, if_any, setting_questions}
+use Rattle.planner.specs.Setting.{pairs, name_links, gap_of_row_lawful, mtu_of_row_lawful, messages_served, plainly, if_any, setting_questions}
 use Rattle.planner.proofs.Fractions.{bandwidth_exact, jitter_exact}
 use Rattle.planner.proofs.Failing.{every_passes}
 use Rattle.planner.proofs.Lawful.{lawful_selection}
@@ -68,8 +68,8 @@ module _ (port : Port) (st : Standing) (rows : List Row) (sound : good st ≡ tr
   judged_by_field h =
       let flows = unfailed 13 _ (first_without_flow st) refl h in
       let names = unfailed 19 _ (plainly (name_links st.links rows)) refl flows.1 in
-      let gaps = unfailed 20 _ (first_failing (gap_lawful eight_gaps) rows) refl names.1 in
-      let mtus = unfailed 21 _ (first_failing mtu_lawful rows) refl gaps.1 in
+      let gaps = unfailed 20 _ (first_failing (gap_of_row_lawful eight_gaps) rows) refl names.1 in
+      let mtus = unfailed 21 _ (first_failing mtu_of_row_lawful rows) refl gaps.1 in
       let sel = lawful_selection (record { sound = sound; named = named_from_plainly _ names.0; gaps = gaps.0; mtus = mtus.0 }) in
       ap (λ t. eqb t.0 0) (sym (λ i. told_or 13 (told_or 19 (told_or 20 (told_or 21 last_two (mtus.0 i)) (gaps.0 i)) (names.0 i)) (flows.0 i)))
       ∙ by_rules ∙ ap (λ b. list_all (messages_served st) rows && b) (in_fractions sel)

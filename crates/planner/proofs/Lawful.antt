@@ -15,7 +15,7 @@ use Rattle.plan.specs.Standing.{Standing, stands}
 use Rattle.plan.proofs.Good.{facts_from_good}
 use Rattle.planner.specs.declared.row.Row.{Row}
 use Rattle.planner.specs.Asked.{told_or, refusal, first_failing}
-use Rattle.planner.specs.Setting.{pairs, name_links, gap_lawful, mtu_lawful, messages_served, if_any, row_questions}
+use Rattle.planner.specs.Setting.{pairs, name_links, gap_of_row_lawful, mtu_of_row_lawful, messages_served, if_any, row_questions}
 use Rattle.planner.proofs.Failing.{passes_from_none}
 use Rattle.planner.proofs.Names.{as_many, rows_stand}
 
@@ -26,10 +26,10 @@ few_rows st rows sound named = omega (arith, as_many st.links rows named, (facts
 pub record LawfulRows (st : Standing) (rows : List Row) : Type 0 where
   pub sound : good st ≡ true
   pub named : name_links st.links rows ≡ true
-  pub gaps : None ≡ first_failing (gap_lawful eight_gaps) rows
-  pub mtus : None ≡ first_failing mtu_lawful rows
+  pub gaps : None ≡ first_failing (gap_of_row_lawful eight_gaps) rows
+  pub mtus : None ≡ first_failing mtu_of_row_lawful rows
 
-pairs_lawful : (rows : List Row) → AllByRecursion (λ row. gap_lawful eight_gaps row ≡ true) rows → AllByRecursion (λ row. mtu_lawful row ≡ true) rows → AllByRecursion (λ row. Lawful row.pair) rows
+pairs_lawful : (rows : List Row) → AllByRecursion (λ row. gap_of_row_lawful eight_gaps row ≡ true) rows → AllByRecursion (λ row. mtu_of_row_lawful row ≡ true) rows → AllByRecursion (λ row. Lawful row.pair) rows
 pairs_lawful [] g m = tt
 pairs_lawful (row ∷ rows) g m = (and_from _ _ g.0 m.0, pairs_lawful rows g.1 m.1)
 
@@ -44,7 +44,7 @@ served_alike st (row ∷ rows) s l = λ i. cond (s.0 i && (l.0 i && messages_ser
 
 module _ {st : Standing} {rows : List Row} (so_far : LawfulRows st rows) where
   each_lawful : AllByRecursion (λ row. Lawful row.pair) rows
-  each_lawful = pairs_lawful rows (passes_from_none (gap_lawful eight_gaps) rows so_far.gaps) (passes_from_none mtu_lawful rows so_far.mtus)
+  each_lawful = pairs_lawful rows (passes_from_none (gap_of_row_lawful eight_gaps) rows so_far.gaps) (passes_from_none mtu_of_row_lawful rows so_far.mtus)
 
   pub lawful_selection : Selection (pairs rows)
   lawful_selection = record {

@@ -18,12 +18,12 @@ abbrev pub name_links : List ℕ → List Row → Bool
 name_links links rows = pointwise nat_eq (map (λ row. row.link) rows) links
 
 -- the gap of the row is one of the gaps
-abbrev pub gap_lawful : List ℕ → Row → Bool
-gap_lawful gaps row = lawful_gap gaps row.pair
+abbrev pub gap_of_row_lawful : List ℕ → Row → Bool
+gap_of_row_lawful gaps row = lawful_gap gaps row.pair
 
 -- the MTU of the row is in range
-abbrev pub mtu_lawful : Row → Bool
-mtu_lawful row = lawful_mtu row.pair
+abbrev pub mtu_of_row_lawful : Row → Bool
+mtu_of_row_lawful row = lawful_mtu row.pair
 
 -- the pair of the row meets the message rule of its link
 abbrev pub messages_served : Standing → Row → Bool
@@ -41,8 +41,8 @@ if_any breach = if breach == 0 then None else Some breach
 -- does the message rule hold, and are the pairs within the limit?
 abbrev pub row_questions : List ℕ → (List Pair → ℕ) → Standing → List Row → Asked
 row_questions gaps breach st rows =
-    (20, first_failing (gap_lawful gaps) rows)
-    ∷ (21, first_failing mtu_lawful rows)
+    (20, first_failing (gap_of_row_lawful gaps) rows)
+    ∷ (21, first_failing mtu_of_row_lawful rows)
     ∷ (22, first_failing (messages_served st) rows)
     ∷ (23, if_any (breach (pairs rows)))
     ∷ []

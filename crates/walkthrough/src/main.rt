@@ -16,7 +16,7 @@ use offer::print_pairs;
 use order_book::ORDER_BOOK;
 use plan::Plan;
 use port::make_port;
-use settings::SETTINGS;
+use settings::settings;
 use std::io;
 
 fn main(rt: HostRuntime) -> io::Result<()> {
@@ -62,7 +62,7 @@ fn check_settings(rt: &impl Print, plan: &Plan) -> io::Result<()> {
     println!(rt;
         "8. Check a setting that was made elsewhere, as it is and with a slip of one byte."
     )?;
-    for setting in SETTINGS {
+    for setting in settings() {
         println!(rt; "   Check {}:", setting.note)?;
         print_check(rt, plan, port, &setting.rows)?;
     }

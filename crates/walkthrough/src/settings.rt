@@ -9,44 +9,27 @@ pub(crate) struct Setting {
 }
 
 /// What a supplier offers, and that with one byte too many or too few.
-pub(crate) const SETTINGS: [Setting; 3] = [
-    Setting {
-        note: "the supplier's setting",
-        rows: [
-            Row {
-                link: 7,
-                pair: Pair { gap: 4, mtu: 100 },
-            },
-            Row {
-                link: 9,
-                pair: Pair { gap: 32, mtu: 200 },
-            },
-        ],
-    },
-    Setting {
-        note: "with one byte more for link 7",
-        rows: [
-            Row {
-                link: 7,
-                pair: Pair { gap: 4, mtu: 101 },
-            },
-            Row {
-                link: 9,
-                pair: Pair { gap: 32, mtu: 200 },
-            },
-        ],
-    },
-    Setting {
-        note: "with one byte less for link 9",
-        rows: [
-            Row {
-                link: 7,
-                pair: Pair { gap: 4, mtu: 100 },
-            },
-            Row {
-                link: 9,
-                pair: Pair { gap: 32, mtu: 199 },
-            },
-        ],
-    },
-];
+pub(crate) fn settings() -> [Setting; 3] {
+    [
+        Setting {
+            note: "the supplier's setting",
+            rows: [row(7, 4, 100), row(9, 32, 200)],
+        },
+        Setting {
+            note: "with one byte more for link 7",
+            rows: [row(7, 4, 101), row(9, 32, 200)],
+        },
+        Setting {
+            note: "with one byte less for link 9",
+            rows: [row(7, 4, 100), row(9, 32, 199)],
+        },
+    ]
+}
+
+/// A row of a setting.
+fn row(link: u16, gap: u16, mtu: u16) -> Row {
+    Row {
+        link,
+        pair: Pair { gap, mtu },
+    }
+}

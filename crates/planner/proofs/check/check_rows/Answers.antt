@@ -2,7 +2,7 @@ use Rattle.std.proofs.Common.{rules, ◌≡◌, None, Some, refl}
 use Rattle.limits.specs.Gaps.{eight_gaps}
 use Rattle.plan.specs.Held.{standing}
 use Rattle.planner.specs.Asked.{first_failing}
-use Rattle.planner.specs.Setting.{gap_lawful, mtu_lawful}
+use Rattle.planner.specs.Setting.{gap_of_row_lawful, mtu_of_row_lawful}
 use Rattle.planner.proofs.Lawful.{LawfulRows, few_rows, lawful_selection, told_in_turn}
 use Rattle.planner.proofs.check.check_rows.Goals.{In_default-first_failing}
 use Rattle.planner.proofs.check.check_rows.Goals as goal
@@ -18,8 +18,8 @@ first_failing-requires-2-clause-few g c = search (rules, few_rows)
 
 pub returns-in-Some-first_failing : goal.returns-in-Some-first_failing
 returns-in-Some-first_failing g c =
-    let gaps : None ≡ first_failing (gap_lawful eight_gaps) c.args.rows.now = search rules in
-    let mtus : Some c.in-Some-first_failing.row ≡ first_failing mtu_lawful c.args.rows.now = search rules in
+    let gaps : None ≡ first_failing (gap_of_row_lawful eight_gaps) c.args.rows.now = search rules in
+    let mtus : Some c.in-Some-first_failing.row ≡ first_failing mtu_of_row_lawful c.args.rows.now = search rules in
     rw (← gaps, ← mtus) refl
 
 pub first_failing-requires-3-clause-few : goal.first_failing-requires-3-clause-few
