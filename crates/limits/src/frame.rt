@@ -20,12 +20,12 @@ impl Pair {
     }
 
     /// What the pair reserves, in units of 1/16 kbit/s.
-    #[tactic(auto, using(crate::specs::FrameLaws::frame_most), unfolding(crate::specs::Frame::units))]
+    #[tactic(auto, using(crate::specs::FrameLaws::frame_most, crate::proofs::Shift::shifted), unfolding(crate::specs::Frame::units))]
     pub(crate) fn units(self) -> u32
         requires { Lawful self }
         ensures { result ≡ units self }
     {
-        // 8 bits a byte, and 16 units a kbit/s
-        self.frame_bytes() * 128 / u32::from(self.gap)
+        // 8 bits a byte, and 16 units a kbit/s; a gap is a power of two, so a shift divides by it
+        (self.frame_bytes() * 128) >> self.gap.trailing_zeros()
     }
 }
