@@ -3,3 +3,16 @@ pub mod Names
 pub mod Lawful
 pub mod Fractions
 pub mod ByField
+pub mod Members
+pub mod Pairwise
+pub mod Order
+pub mod Fold
+pub mod Chosen
+pub mod Left
+pub mod Stack
+pub mod Turns
+pub mod Edges
+pub mod Exchanged
+pub mod Present
+pub mod Walk
+pub mod Laws

@@ -2,3 +2,9 @@ pub mod Asked
 pub mod SettingFault
 pub mod Setting
 pub mod Field
+pub mod Selections
+pub mod Table
+pub mod Work
+pub mod Named
+pub mod Outcome
+pub mod Exchange

@@ -3,9 +3,13 @@
 
 mod check;
 mod first_failing;
+mod outcome;
 mod port_check;
 pub mod row;
+mod search;
 pub mod setting_fault;
+mod work_row;
+mod work_table;
 
 pub use check::check_setting;
 pub use port_check::check_port_setting;

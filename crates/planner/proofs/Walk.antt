@@ -1,0 +1,211 @@
+-- The turns of the search, as the work table holds them.
+use Rattle.std.proofs.Common.{◌≡◌, Bool, ℕ, suc, ◌+◌, ◌-◌, ◌<◌, ◌≤◌, true, false, leb, List, [], ◌∷◌, ◌++◌, map, length, get_or, take, drop, set, slice_get, Some, None, Option, sym, ap, ap₂, ◌∙◌, subst, inl, inr, length-set, arith}
+use Rattle.std.specs.Option.{option_map_or}
+use Rattle.std.proofs.lemmas.Bool.{both_ways}
+use Rattle.std.proofs.lemmas.List.{length-map, length-take-le, get_or_default}
+use Rattle.std.proofs.lemmas.Option.{none-some, slice_get_cases, slice_get_within, get_or_from_slice_get}
+use Rattle.limits.specs.declared.pair.Pair.{Pair}
+use Rattle.limits.specs.Selection.{Selection}
+use Rattle.planner.specs.declared.outcome.Outcome.{Outcome}
+use Rattle.planner.specs.declared.outcome.Outcome.TheVariants.{Spent, NoneWithin, Found}
+use Rattle.planner.specs.declared.work_row.Level.{Level}
+use Rattle.planner.specs.declared.work_row.WorkRow.{WorkRow}
+use Rattle.planner.specs.Named.{Aim, visits, named}
+use Rattle.planner.specs.Outcome.{outcome, placed}
+use Rattle.planner.specs.Table.{LawfulCandidates}
+use Rattle.planner.specs.Work.{held}
+use Rattle.planner.proofs.Fold.{beats}
+use Rattle.planner.proofs.Left.{Laws}
+use Rattle.planner.proofs.Stack.{stack, stack_length, stack_push, stack_pop, base, base_reverse, held_set, held_at, row_of, turns}
+use Rattle.planner.proofs.Turns.{tried_one, Frame, Holds, beaten, beaten_is, closed, close, leave, end_told, end_placed, start, visit_selection, spent, spent_below, passed, kept, deeper, leave_less, close_no_more, tried_less, deeper_less}
+
+past : {X : Type 0} (xs : List X) (i : ℕ) → slice_get xs i ≡ None → length xs ≤ i
+past xs i e = elim (slice_get_cases xs i).1 [ inl h ↦ absurd (none-some h.0 (sym e ∙ h.2)) | inr h ↦ h.0 ]
+
+-- the search before a turn: the link at that depth is tried, and the rows above it hold where it was left
+pub record Walks {B T : Type 0} (loaded : List Pair → B) (a : Aim T) (links : ℕ) (cs : List (List Pair)) (allowance : ℕ) (old : List Pair) (here : Level B T) (depth : ℕ) (work : List (WorkRow B T)) (best : Option T) (setting : List Pair) (v : ℕ) : Type 0 where
+  pub deep : depth < links
+  pub long : links ≤ length work
+  pub same : held links work ≡ cs
+  pub holds : Holds loaded a cs allowance old here (stack work depth) best setting v
+
+-- how many links there are, and the row of one
+count_links : {B T : Type 0} (links : ℕ) (cs : List (List Pair)) (work : List (WorkRow B T)) → links ≤ length work → held links work ≡ cs → length cs ≡ links
+count_links links cs work long same = ap length (sym same) ∙ length-map (take links work) (λ row. row.candidates.items) ∙ length-take-le links work long
+
+row_at : {B T : Type 0} (links : ℕ) (cs : List (List Pair)) (work : List (WorkRow B T)) (depth : ℕ) → links ≤ length work → held links work ≡ cs → depth < links → (row : WorkRow B T) → row_of cs (stack work depth) ≡ (get_or work depth row).candidates.items
+row_at links cs work depth long same deep row =
+    ap (λ n. get_or cs n []) (stack_length work depth (omega arith))
+    ∙ ap (λ ds. get_or ds depth []) (sym same)
+    ∙ held_at links work depth row deep (omega arith)
+
+-- the start
+pub begin : {B T : Type 0} {loaded : List Pair → B} {a : Aim T} {cs : List (List Pair)} (laws : Laws a) (lawful : LawfulCandidates cs) (links allowance : ℕ) (old : List Pair) (work : List (WorkRow B T)) → 0 < links → links ≤ length work → held links work ≡ cs → links ≤ length old → (here : Level B T) (load : B) (total : T) → here ≡ record { load = load; total = total; tried = 0 } → load ≡ loaded [] → total ≡ a.total [] → a.within [] ≡ true → Walks loaded a links cs allowance old here 0 work None old 0
+begin {B} {T} {loaded} {a} {cs} laws lawful links allowance old work some long same room here load total here_is load_is total_is within =
+    let n = count_links links cs work long same in
+    record { deep = some; long = long; same = same; holds = start loaded a cs laws lawful allowance old here (omega arith) (omega arith) (ap (λ l. l.load) here_is ∙ load_is) (ap (λ l. l.total) here_is ∙ total_is) (ap (λ l. l.tried) here_is) within }
+
+module _ {B T : Type 0} {loaded : List Pair → B} {a : Aim T} {links : ℕ} {cs : List (List Pair)} {allowance : ℕ} {old : List Pair} (laws : Laws a) (lawful : LawfulCandidates cs) {here : Level B T} {depth : ℕ} {work : List (WorkRow B T)} {best : Option T} {setting : List Pair} {v : ℕ} (w : Walks loaded a links cs allowance old here depth work best setting v) where
+  links_is : length cs ≡ links
+  links_is = count_links links cs work w.long w.same
+
+  height : length (stack work depth) ≡ depth
+  height = let deep = w.deep in let long = w.long in stack_length work depth (omega arith)
+
+  -- the row of the link that is tried
+  module _ (row : WorkRow B T) where
+    row_is : row_of cs (stack work depth) ≡ (get_or work depth row).candidates.items
+    row_is = row_at links cs work depth w.long w.same w.deep row
+
+    -- its candidates are used up
+    module _ (next : Option Pair) (read : next ≡ slice_get (get_or work depth row).candidates.items here.tried) (none : next ≡ None) where
+      used : length (row_of cs (stack work depth)) ≤ here.tried
+      used = omega (arith, ap length row_is, past (get_or work depth row).candidates.items here.tried (sym read ∙ none))
+
+      -- at the first link: the search is over
+      module _ (first : depth ≡ 0) where
+        at_first : Holds loaded a cs allowance old here [] best setting v
+        at_first = subst (λ d. Holds loaded a cs allowance old here (stack work d) best setting v) first w.holds
+
+        used_first : length (get_or cs 0 []) ≤ here.tried
+        used_first = subst (λ d. length (row_of cs (stack work d)) ≤ here.tried) first used
+
+        pub over_told : (told : Outcome T) → told ≡ option_map_or (λ total. Found total v) best (NoneWithin v) → told ≡ outcome a cs allowance
+        over_told told told_is = told_is ∙ end_told loaded a cs laws lawful allowance old at_first used_first
+
+        pub over_placed : setting ≡ placed (named a cs) old
+        over_placed = end_placed loaded a cs laws lawful allowance old at_first used_first
+
+      -- at another link: the search goes back to the link before
+      module _ (other : depth ≡ 0 → ⊥) (row_back : WorkRow B T) (count : ℕ) (count_is : count ≡ length (get_or work (depth - 1) row_back).candidates.items) where
+        popped : stack work depth ≡ get_or work (depth - 1) row_back ∷ stack work (depth - 1)
+        popped =
+            let deep = w.deep in
+            let long = w.long in
+            let up : depth ≡ (depth - 1) + 1 = omega arith in
+            ap (stack work) up ∙ stack_pop work (depth - 1) row_back (omega arith)
+
+        back_row : length (row_of cs (stack work (depth - 1))) ≤ count
+        back_row =
+            let deep = w.deep in
+            omega (arith, ap length (row_at links cs work (depth - 1) w.long w.same (omega arith) row_back))
+
+        left_here : Holds loaded a cs allowance old here ((get_or work (depth - 1) row_back) ∷ stack work (depth - 1)) best setting v
+        left_here = subst (λ rs. Holds loaded a cs allowance old here rs best setting v) popped w.holds
+
+        used_here : length (row_of cs ((get_or work (depth - 1) row_back) ∷ stack work (depth - 1))) ≤ here.tried
+        used_here = subst (λ rs. length (row_of cs rs) ≤ here.tried) popped used
+
+        pub back_walks : Walks loaded a links cs allowance old (closed (beaten a best (get_or work (depth - 1) row_back).level.total) count (get_or work (depth - 1) row_back).level) (depth - 1) work best setting v
+        back_walks =
+            let deep = w.deep in
+            record {
+              deep = omega arith;
+              long = w.long;
+              same = w.same;
+              holds = close loaded a cs laws lawful allowance old (leave loaded a cs laws lawful allowance old left_here used_here) count back_row;
+            }
+
+        pub back_less : turns cs (closed (beaten a best (get_or work (depth - 1) row_back).level.total) count (get_or work (depth - 1) row_back).level) (stack work (depth - 1)) < turns cs here (stack work depth)
+        back_less =
+            let less : turns cs (get_or work (depth - 1) row_back).level (stack work (depth - 1)) < turns cs here ((get_or work (depth - 1) row_back) ∷ stack work (depth - 1)) = leave_less cs here (get_or work (depth - 1) row_back) (stack work (depth - 1)) in
+            let same : turns cs here (stack work depth) ≡ turns cs here ((get_or work (depth - 1) row_back) ∷ stack work (depth - 1)) = ap (turns cs here) popped in
+            omega (arith, close_no_more cs (beaten a best (get_or work (depth - 1) row_back).level.total) count (get_or work (depth - 1) row_back).level (stack work (depth - 1)) back_row)
+
+    -- its next candidate is p
+    module _ (next : Option Pair) (read : next ≡ slice_get (get_or work depth row).candidates.items here.tried) (p : Pair) (some : next ≡ Some p) where
+      more : here.tried < length (row_of cs (stack work depth))
+      more = omega (arith, ap length row_is, slice_get_within (get_or work depth row).candidates.items here.tried p (sym read ∙ some))
+
+      at : get_or (row_of cs (stack work depth)) here.tried p ≡ p
+      at = ap (λ c. get_or c here.tried p) row_is ∙ get_or_from_slice_get (get_or work depth row).candidates.items here.tried p p (sym read ∙ some)
+
+      pub taken : Selection (base (stack work depth) ++ p ∷ [])
+      taken = visit_selection loaded a cs laws lawful allowance old w.holds p more at
+
+      pub here_is : Frame loaded a (base (stack work depth)) here
+      here_is = w.holds.stands.frame
+
+      pub spent_told : v ≡ allowance → Spent ≡ outcome a cs allowance
+      spent_told = spent loaded a cs laws lawful allowance old w.holds p more at
+
+      pub spent_placed : v ≡ allowance → leb (visits a cs) allowance ≡ true → setting ≡ placed (named a cs) old
+      spent_placed e enough = absurd (both_ways (leb (visits a cs) allowance) (spent_below loaded a cs laws lawful allowance old w.holds p more at e) enough)
+
+      pub tried_turns : turns cs (tried_one here) (stack work depth) < turns cs here (stack work depth)
+      tried_turns = tried_less cs here (stack work depth) p more
+
+      module _ (unspent : v ≡ allowance → ⊥) where
+        with_tried : Holds loaded a cs allowance old (tried_one here) (stack work depth) best setting (v + 1) → Walks loaded a links cs allowance old (tried_one here) depth work best setting (v + 1)
+        with_tried h = record { deep = w.deep; long = w.long; same = w.same; holds = h }
+
+        -- the selection with it is not within
+        pub outside_walks : a.within (base (stack work depth) ++ p ∷ []) ≡ false → Walks loaded a links cs allowance old (tried_one here) depth work best setting (v + 1)
+        outside_walks e = with_tried (passed loaded a cs laws lawful allowance old w.holds p more at unspent (inl e))
+
+        module _ (total : T) (total_is : total ≡ a.total (base (stack work depth) ++ p ∷ [])) (verdict : Bool) (verdict_is : verdict ≡ beaten a best total) where
+          beats_is : verdict ≡ beats a w.holds.stands.found (base (stack work depth) ++ p ∷ [])
+          beats_is = verdict_is ∙ beaten_is a w.holds.stands.found best total (base (stack work depth) ++ p ∷ []) w.holds.stands.best_is total_is
+
+          -- the best so far totals no more
+          pub beaten_walks : verdict ≡ true → Walks loaded a links cs allowance old (tried_one here) depth work best setting (v + 1)
+          beaten_walks e = with_tried (passed loaded a cs laws lawful allowance old w.holds p more at unspent (inr (sym beats_is ∙ e)))
+
+          module _ (within : a.within (base (stack work depth) ++ p ∷ []) ≡ true) (unbeaten : verdict ≡ false) where
+            ahead : beats a w.holds.stands.found (base (stack work depth) ++ p ∷ []) ≡ false
+            ahead = sym beats_is ∙ unbeaten
+
+            -- at the last link it is the best so far
+            module _ (last : links ≤ depth + 1) (new : List Pair) (new_is : new ≡ (map (λ r. r.pair) (take depth work) ++ p ∷ []) ++ drop (depth + 1) setting) (again : WorkRow B T) (count : ℕ) (count_is : count ≡ length (get_or work depth again).candidates.items) where
+              new_setting : new ≡ (base (stack work depth) ++ p ∷ []) ++ drop (suc (length (stack work depth))) setting
+              new_setting =
+                  let up : depth + 1 ≡ suc (length (stack work depth)) = omega (arith, height) in
+                  new_is ∙ ap₂ (λ s n. (s ++ p ∷ []) ++ drop n setting) (sym (base_reverse (take depth work))) up
+
+              few : length (row_of cs (stack work depth)) ≤ count
+              few = omega (arith, ap length (row_at links cs work depth w.long w.same w.deep again))
+
+              pub best_walks : Walks loaded a links cs allowance old (closed (beaten a (Some total) here.total) count (tried_one here)) depth work (Some total) new (v + 1)
+              best_walks =
+                  let deep = w.deep in
+                  let end : length cs ≡ suc (length (stack work depth)) = omega (arith, height, links_is) in
+                  record {
+                    deep = w.deep;
+                    long = w.long;
+                    same = w.same;
+                    holds = close loaded a cs laws lawful allowance old (kept loaded a cs laws lawful allowance old w.holds p more at unspent within ahead end total total_is new new_setting) count few;
+                  }
+
+              pub best_less : turns cs (closed (beaten a (Some total) here.total) count (tried_one here)) (stack work depth) < turns cs here (stack work depth)
+              best_less = omega (arith, tried_turns, close_no_more cs (beaten a (Some total) here.total) count (tried_one here) (stack work depth) few)
+
+            -- at another link the search goes on to the next
+            module _ (not_last : depth + 1 < links) (again new : WorkRow B T) (new_is : new ≡ record { candidates = (get_or work depth again).candidates; level = tried_one here; pair = p }) (fresh : Level B T) (load : B) (fresh_is : fresh ≡ record { load = load; total = total; tried = 0 }) (load_is : load ≡ loaded (base (stack work depth) ++ p ∷ [])) where
+              untried : fresh.tried ≡ 0
+              untried = ap (λ l. l.tried) fresh_is
+
+              inside : depth < length work
+              inside = let long = w.long in omega arith
+
+              pushed : stack (set work depth new) (depth + 1) ≡ new ∷ stack work depth
+              pushed = stack_push work depth new inside
+
+              pub next_walks : Walks loaded a links cs allowance old fresh (depth + 1) (set work depth new) best setting (v + 1)
+              next_walks =
+                  let on : suc (length (stack work depth)) < length cs = omega (arith, height, links_is) in
+                  record {
+                    deep = not_last;
+                    long = omega (arith, w.long, length-set work depth new);
+                    same = held_set links work depth new inside (ap (λ r. r.candidates.items) new_is ∙ kept_row) ∙ w.same;
+                    holds = subst (λ rs. Holds loaded a cs allowance old fresh rs best setting (v + 1)) (sym pushed)
+                        (deeper loaded a cs laws lawful allowance old w.holds p more at unspent within ahead on new (ap (λ r. r.level) new_is) (ap (λ r. r.pair) new_is) fresh (ap (λ l. l.load) fresh_is ∙ load_is) (ap (λ l. l.total) fresh_is ∙ total_is) untried);
+                  }
+                where
+                  kept_row : (get_or work depth again).candidates.items ≡ (get_or work depth new).candidates.items
+                  kept_row = ap (λ r. r.candidates.items) (get_or_default work depth again new inside)
+
+              pub next_less : turns cs fresh (stack (set work depth new) (depth + 1)) < turns cs here (stack work depth)
+              next_less =
+                  let on : suc (length (stack work depth)) < length cs = omega (arith, height, links_is) in
+                  let less : turns cs fresh (new ∷ stack work depth) < turns cs here (stack work depth) = deeper_less cs here (stack work depth) p more on new (ap (λ r. r.level) new_is) fresh untried in
+                  subst (λ rs. turns cs fresh rs < turns cs here (stack work depth)) (sym pushed) less

@@ -1,0 +1,58 @@
+ghost use Rattle.std.specs.Prelude.{◌≡◌, ◌<◌, length, slice_get, OnSome};
+
+use arrayvec::ArrayVec;
+use limits::{GAP_COUNT, Pair};
+
+/// Where a search stands at a link: what the pairs of the links before come to, and how many of its candidates were tried.
+#[derive(Clone, Copy)]
+pub(crate) struct Level<B, T> {
+    pub(crate) load: B,
+    pub(crate) total: T,
+    pub(crate) tried: usize,
+}
+
+impl<B: Copy, T: Copy> Level<B, T> {
+    /// A link of which no candidate was tried.
+    pub(crate) fn fresh(load: B, total: T) -> Level<B, T>
+        ensures { result ≡ record { load = load; total = total; tried = 0 } }
+    {
+        Level {
+            load,
+            total,
+            tried: 0,
+        }
+    }
+}
+
+/// A row of the work table: the candidates of a link, and where the search left it with the pair that it tried last.
+#[derive(Drop)]
+pub(crate) struct WorkRow<B, T> {
+    pub(crate) candidates: ArrayVec<Pair, GAP_COUNT>,
+    pub(crate) level: Level<B, T>,
+    pub(crate) pair: Pair,
+}
+
+impl<B: Copy, T: Copy> WorkRow<B, T> {
+    /// How many candidates there are.
+    pub(crate) fn count(&self) -> usize
+        ensures { result ≡ length self.now.candidates.items }
+    {
+        self.candidates.len()
+    }
+
+    /// The candidate at that place, if there are so many.
+    pub(crate) fn candidate(&self, place: usize) -> Option<Pair>
+        ensures value { result ≡ slice_get self.now.candidates.items place }
+        ensures bound { OnSome result (place < 8) }
+    {
+        self.candidates.get(place).copied()
+    }
+
+    /// Notes where the search leaves the link, and the pair that it takes there.
+    pub(crate) fn leave(&mut self, level: Level<B, T>, pair: Pair)
+        ensures { self.new ≡ record self.old { level = level; pair = pair } }
+    {
+        self.level = level;
+        self.pair = pair;
+    }
+}
