@@ -7,6 +7,8 @@ mod outcome;
 mod port_check;
 pub mod row;
 mod search;
+#[cfg(test)]
+mod search_tests;
 pub mod setting_fault;
 mod work_row;
 mod work_table;
