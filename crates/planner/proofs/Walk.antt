@@ -6,6 +6,7 @@ use Rattle.std.proofs.lemmas.List.{length-map, length-take-le, get_or_default}
 use Rattle.std.proofs.lemmas.Option.{none-some, slice_get_cases, slice_get_within, get_or_from_slice_get}
 use Rattle.limits.specs.declared.pair.Pair.{Pair}
 use Rattle.limits.specs.Selection.{Selection}
+use Rattle.limits.specs.Taken.{MayTake, Takes}
 use Rattle.planner.specs.declared.outcome.Outcome.{Outcome}
 use Rattle.planner.specs.declared.outcome.Outcome.TheVariants.{Spent, NoneWithin, Found}
 use Rattle.planner.specs.declared.work_row.Level.{Level}
@@ -45,167 +46,197 @@ begin {B} {T} {loaded} {a} {cs} laws lawful links allowance old work some long s
     let n = count_links links cs work long same in
     record { deep = some; long = long; same = same; holds = start loaded a cs laws lawful allowance old here (omega arith) (omega arith) (ap (λ l. l.load) here_is ∙ load_is) (ap (λ l. l.total) here_is ∙ total_is) (ap (λ l. l.tried) here_is) within }
 
-module _ {B T : Type 0} {loaded : List Pair → B} {a : Aim T} {links : ℕ} {cs : List (List Pair)} {allowance : ℕ} {old : List Pair} (laws : Laws a) (lawful : LawfulCandidates cs) {here : Level B T} {depth : ℕ} {work : List (WorkRow B T)} {best : Option T} {setting : List Pair} {v : ℕ} (w : Walks loaded a links cs allowance old here depth work best setting v) where
-  links_is : length cs ≡ links
-  links_is = count_links links cs work w.long w.same
+-- a turn at which the candidates of the link are used up
+pub record Leaves {B T : Type 0} (loaded : List Pair → B) (a : Aim T) (links : ℕ) (cs : List (List Pair)) (allowance : ℕ) (old : List Pair) (here : Level B T) (depth : ℕ) (work : List (WorkRow B T)) (best : Option T) (setting : List Pair) (v : ℕ) : Type 0 where
+  pub laws : Laws a
+  pub lawful : LawfulCandidates cs
+  pub walks : Walks loaded a links cs allowance old here depth work best setting v
+  pub used : length (row_of cs (stack work depth)) ≤ here.tried
 
-  height : length (stack work depth) ≡ depth
-  height = let deep = w.deep in let long = w.long in stack_length work depth (omega arith)
+-- a turn at which p is the next candidate
+pub record Visits {B T : Type 0} (loaded : List Pair → B) (a : Aim T) (links : ℕ) (cs : List (List Pair)) (allowance : ℕ) (old : List Pair) (here : Level B T) (depth : ℕ) (work : List (WorkRow B T)) (best : Option T) (setting : List Pair) (v : ℕ) (p : Pair) : Type 0 where
+  pub laws : Laws a
+  pub lawful : LawfulCandidates cs
+  pub walks : Walks loaded a links cs allowance old here depth work best setting v
+  pub more : here.tried < length (row_of cs (stack work depth))
+  pub at : get_or (row_of cs (stack work depth)) here.tried p ≡ p
 
-  -- the row of the link that is tried
-  module _ (row : WorkRow B T) where
-    row_is : row_of cs (stack work depth) ≡ (get_or work depth row).candidates.items
-    row_is = row_at links cs work depth w.long w.same w.deep row
+-- which of them it is, as the row tells
+module _ {B T : Type 0} {loaded : List Pair → B} {a : Aim T} {links : ℕ} {cs : List (List Pair)} {allowance : ℕ} {old : List Pair} {here : Level B T} {depth : ℕ} {work : List (WorkRow B T)} {best : Option T} {setting : List Pair} {v : ℕ} (laws : Laws a) (lawful : LawfulCandidates cs) (w : Walks loaded a links cs allowance old here depth work best setting v) (row : WorkRow B T) (next : Option Pair) (read : next ≡ slice_get (get_or work depth row).candidates.items here.tried) where
+  row_is : row_of cs (stack work depth) ≡ (get_or work depth row).candidates.items
+  row_is = row_at links cs work depth w.long w.same w.deep row
 
-    -- its candidates are used up
-    module _ (next : Option Pair) (read : next ≡ slice_get (get_or work depth row).candidates.items here.tried) (none : next ≡ None) where
-      used : length (row_of cs (stack work depth)) ≤ here.tried
-      used = omega (arith, ap length row_is, past (get_or work depth row).candidates.items here.tried (sym read ∙ none))
+  pub leaves : next ≡ None → Leaves loaded a links cs allowance old here depth work best setting v
+  leaves none = record {
+    laws = laws;
+    lawful = lawful;
+    walks = w;
+    used = omega (arith, ap length row_is, past (get_or work depth row).candidates.items here.tried (sym read ∙ none));
+  }
 
-      -- at the first link: the search is over
-      module _ (first : depth ≡ 0) where
-        at_first : Holds loaded a cs allowance old here [] best setting v
-        at_first = subst (λ d. Holds loaded a cs allowance old here (stack work d) best setting v) first w.holds
+  pub visits_next : (p : Pair) → next ≡ Some p → Visits loaded a links cs allowance old here depth work best setting v p
+  visits_next p some = record {
+    laws = laws;
+    lawful = lawful;
+    walks = w;
+    more = omega (arith, ap length row_is, slice_get_within (get_or work depth row).candidates.items here.tried p (sym read ∙ some));
+    at = ap (λ c. get_or c here.tried p) row_is ∙ get_or_from_slice_get (get_or work depth row).candidates.items here.tried p p (sym read ∙ some);
+  }
 
-        used_first : length (get_or cs 0 []) ≤ here.tried
-        used_first = subst (λ d. length (row_of cs (stack work d)) ≤ here.tried) first used
+height : {B T : Type 0} (links depth : ℕ) (work : List (WorkRow B T)) → depth < links → links ≤ length work → length (stack work depth) ≡ depth
+height links depth work deep long = stack_length work depth (omega arith)
 
-        pub over_told : (told : Outcome T) → told ≡ option_map_or (λ total. Found total v) best (NoneWithin v) → told ≡ outcome a cs allowance
-        over_told told told_is = told_is ∙ end_told loaded a cs laws lawful allowance old at_first used_first
+module _ {B T : Type 0} {loaded : List Pair → B} {a : Aim T} {links : ℕ} {cs : List (List Pair)} {allowance : ℕ} {old : List Pair} {here : Level B T} {depth : ℕ} {work : List (WorkRow B T)} {best : Option T} {setting : List Pair} {v : ℕ} (t : Leaves loaded a links cs allowance old here depth work best setting v) where
+  -- at the first link: the search is over
+  module _ (first : depth ≡ 0) where
+    at_first : Holds loaded a cs allowance old here [] best setting v
+    at_first = subst (λ d. Holds loaded a cs allowance old here (stack work d) best setting v) first t.walks.holds
 
-        pub over_placed : setting ≡ placed (named a cs) old
-        over_placed = end_placed loaded a cs laws lawful allowance old at_first used_first
+    used_first : length (get_or cs 0 []) ≤ here.tried
+    used_first = subst (λ d. length (row_of cs (stack work d)) ≤ here.tried) first t.used
 
-      -- at another link: the search goes back to the link before
-      module _ (other : depth ≡ 0 → ⊥) (row_back : WorkRow B T) (count : ℕ) (count_is : count ≡ length (get_or work (depth - 1) row_back).candidates.items) where
-        popped : stack work depth ≡ get_or work (depth - 1) row_back ∷ stack work (depth - 1)
-        popped =
-            let deep = w.deep in
-            let long = w.long in
-            let up : depth ≡ (depth - 1) + 1 = omega arith in
-            ap (stack work) up ∙ stack_pop work (depth - 1) row_back (omega arith)
+    pub over_told : (told : Outcome T) → told ≡ option_map_or (λ total. Found total v) best (NoneWithin v) → told ≡ outcome a cs allowance
+    over_told told told_is = told_is ∙ end_told loaded a cs t.laws t.lawful allowance old at_first used_first
 
-        back_row : length (row_of cs (stack work (depth - 1))) ≤ count
-        back_row =
-            let deep = w.deep in
-            omega (arith, ap length (row_at links cs work (depth - 1) w.long w.same (omega arith) row_back))
+    pub over_placed : setting ≡ placed (named a cs) old
+    over_placed = end_placed loaded a cs t.laws t.lawful allowance old at_first used_first
 
-        left_here : Holds loaded a cs allowance old here ((get_or work (depth - 1) row_back) ∷ stack work (depth - 1)) best setting v
-        left_here = subst (λ rs. Holds loaded a cs allowance old here rs best setting v) popped w.holds
+  -- at another link: the search goes back to the link before
+  module _ (other : depth ≡ 0 → ⊥) (row_back : WorkRow B T) (count : ℕ) (count_is : count ≡ length (get_or work (depth - 1) row_back).candidates.items) where
+    popped : stack work depth ≡ get_or work (depth - 1) row_back ∷ stack work (depth - 1)
+    popped =
+        let deep = t.walks.deep in
+        let long = t.walks.long in
+        let up : depth ≡ (depth - 1) + 1 = omega arith in
+        ap (stack work) up ∙ stack_pop work (depth - 1) row_back (omega arith)
 
-        used_here : length (row_of cs ((get_or work (depth - 1) row_back) ∷ stack work (depth - 1))) ≤ here.tried
-        used_here = subst (λ rs. length (row_of cs rs) ≤ here.tried) popped used
+    back_row : length (row_of cs (stack work (depth - 1))) ≤ count
+    back_row =
+        let deep = t.walks.deep in
+        omega (arith, ap length (row_at links cs work (depth - 1) t.walks.long t.walks.same (omega arith) row_back))
 
-        pub back_walks : Walks loaded a links cs allowance old (closed (beaten a best (get_or work (depth - 1) row_back).level.total) count (get_or work (depth - 1) row_back).level) (depth - 1) work best setting v
-        back_walks =
-            let deep = w.deep in
-            record {
-              deep = omega arith;
-              long = w.long;
-              same = w.same;
-              holds = close loaded a cs laws lawful allowance old (leave loaded a cs laws lawful allowance old left_here used_here) count back_row;
-            }
+    left_here : Holds loaded a cs allowance old here ((get_or work (depth - 1) row_back) ∷ stack work (depth - 1)) best setting v
+    left_here = subst (λ rs. Holds loaded a cs allowance old here rs best setting v) popped t.walks.holds
 
-        pub back_less : turns cs (closed (beaten a best (get_or work (depth - 1) row_back).level.total) count (get_or work (depth - 1) row_back).level) (stack work (depth - 1)) < turns cs here (stack work depth)
-        back_less =
-            let less : turns cs (get_or work (depth - 1) row_back).level (stack work (depth - 1)) < turns cs here ((get_or work (depth - 1) row_back) ∷ stack work (depth - 1)) = leave_less cs here (get_or work (depth - 1) row_back) (stack work (depth - 1)) in
-            let same : turns cs here (stack work depth) ≡ turns cs here ((get_or work (depth - 1) row_back) ∷ stack work (depth - 1)) = ap (turns cs here) popped in
-            omega (arith, close_no_more cs (beaten a best (get_or work (depth - 1) row_back).level.total) count (get_or work (depth - 1) row_back).level (stack work (depth - 1)) back_row)
+    used_here : length (row_of cs ((get_or work (depth - 1) row_back) ∷ stack work (depth - 1))) ≤ here.tried
+    used_here = subst (λ rs. length (row_of cs rs) ≤ here.tried) popped t.used
 
-    -- its next candidate is p
-    module _ (next : Option Pair) (read : next ≡ slice_get (get_or work depth row).candidates.items here.tried) (p : Pair) (some : next ≡ Some p) where
-      more : here.tried < length (row_of cs (stack work depth))
-      more = omega (arith, ap length row_is, slice_get_within (get_or work depth row).candidates.items here.tried p (sym read ∙ some))
+    pub back_walks : Walks loaded a links cs allowance old (closed (beaten a best (get_or work (depth - 1) row_back).level.total) count (get_or work (depth - 1) row_back).level) (depth - 1) work best setting v
+    back_walks =
+        let deep = t.walks.deep in
+        record {
+          deep = omega arith;
+          long = t.walks.long;
+          same = t.walks.same;
+          holds = close loaded a cs t.laws t.lawful allowance old (leave loaded a cs t.laws t.lawful allowance old left_here used_here) count back_row;
+        }
 
-      at : get_or (row_of cs (stack work depth)) here.tried p ≡ p
-      at = ap (λ c. get_or c here.tried p) row_is ∙ get_or_from_slice_get (get_or work depth row).candidates.items here.tried p p (sym read ∙ some)
+    pub back_less : turns cs (closed (beaten a best (get_or work (depth - 1) row_back).level.total) count (get_or work (depth - 1) row_back).level) (stack work (depth - 1)) < turns cs here (stack work depth)
+    back_less =
+        let less : turns cs (get_or work (depth - 1) row_back).level (stack work (depth - 1)) < turns cs here ((get_or work (depth - 1) row_back) ∷ stack work (depth - 1)) = leave_less cs here (get_or work (depth - 1) row_back) (stack work (depth - 1)) in
+        let same : turns cs here (stack work depth) ≡ turns cs here ((get_or work (depth - 1) row_back) ∷ stack work (depth - 1)) = ap (turns cs here) popped in
+        omega (arith, close_no_more cs (beaten a best (get_or work (depth - 1) row_back).level.total) count (get_or work (depth - 1) row_back).level (stack work (depth - 1)) back_row)
 
-      pub taken : Selection (base (stack work depth) ++ p ∷ [])
-      taken = visit_selection loaded a cs laws lawful allowance old w.holds p more at
+module _ {B T : Type 0} {loaded : List Pair → B} {a : Aim T} {links : ℕ} {cs : List (List Pair)} {allowance : ℕ} {old : List Pair} {here : Level B T} {depth : ℕ} {work : List (WorkRow B T)} {best : Option T} {setting : List Pair} {v : ℕ} {p : Pair} (t : Visits loaded a links cs allowance old here depth work best setting v p) where
+  pub taken : Selection (base (stack work depth) ++ p ∷ [])
+  taken = visit_selection loaded a cs t.laws t.lawful allowance old t.walks.holds p t.more t.at
 
-      pub here_is : Frame loaded a (base (stack work depth)) here
-      here_is = w.holds.stands.frame
+  here_is : Frame loaded a (base (stack work depth)) here
+  here_is = t.walks.holds.stands.frame
 
-      pub spent_told : v ≡ allowance → Spent ≡ outcome a cs allowance
-      spent_told = spent loaded a cs laws lawful allowance old w.holds p more at
+  -- what is kept of the selection that is visited
+  pub load_of : (load : B) → Takes loaded here.load p load → load ≡ loaded (base (stack work depth) ++ p ∷ [])
+  load_of load takes = takes (base (stack work depth)) here_is.load taken
 
-      pub spent_placed : v ≡ allowance → leb (visits a cs) allowance ≡ true → setting ≡ placed (named a cs) old
-      spent_placed e enough = absurd (both_ways (leb (visits a cs) allowance) (spent_below loaded a cs laws lawful allowance old w.holds p more at e) enough)
+  pub total_of : (total : T) → Takes a.total here.total p total → total ≡ a.total (base (stack work depth) ++ p ∷ [])
+  total_of total takes = takes (base (stack work depth)) here_is.total taken
 
-      pub tried_turns : turns cs (tried_one here) (stack work depth) < turns cs here (stack work depth)
-      tried_turns = tried_less cs here (stack work depth) p more
+  pub may_take_load : MayTake loaded here.load p
+  may_take_load = (base (stack work depth), here_is.load, taken)
 
-      module _ (unspent : v ≡ allowance → ⊥) where
-        with_tried : Holds loaded a cs allowance old (tried_one here) (stack work depth) best setting (v + 1) → Walks loaded a links cs allowance old (tried_one here) depth work best setting (v + 1)
-        with_tried h = record { deep = w.deep; long = w.long; same = w.same; holds = h }
+  pub may_take_total : MayTake a.total here.total p
+  may_take_total = (base (stack work depth), here_is.total, taken)
 
-        -- the selection with it is not within
-        pub outside_walks : a.within (base (stack work depth) ++ p ∷ []) ≡ false → Walks loaded a links cs allowance old (tried_one here) depth work best setting (v + 1)
-        outside_walks e = with_tried (passed loaded a cs laws lawful allowance old w.holds p more at unspent (inl e))
+  pub spent_told : v ≡ allowance → Spent ≡ outcome a cs allowance
+  spent_told = spent loaded a cs t.laws t.lawful allowance old t.walks.holds p t.more t.at
 
-        module _ (total : T) (total_is : total ≡ a.total (base (stack work depth) ++ p ∷ [])) (verdict : Bool) (verdict_is : verdict ≡ beaten a best total) where
-          beats_is : verdict ≡ beats a w.holds.stands.found (base (stack work depth) ++ p ∷ [])
-          beats_is = verdict_is ∙ beaten_is a w.holds.stands.found best total (base (stack work depth) ++ p ∷ []) w.holds.stands.best_is total_is
+  pub spent_placed : v ≡ allowance → leb (visits a cs) allowance ≡ true → setting ≡ placed (named a cs) old
+  spent_placed e enough = absurd (both_ways (leb (visits a cs) allowance) (spent_below loaded a cs t.laws t.lawful allowance old t.walks.holds p t.more t.at e) enough)
 
-          -- the best so far totals no more
-          pub beaten_walks : verdict ≡ true → Walks loaded a links cs allowance old (tried_one here) depth work best setting (v + 1)
-          beaten_walks e = with_tried (passed loaded a cs laws lawful allowance old w.holds p more at unspent (inr (sym beats_is ∙ e)))
+  pub tried_turns : turns cs (tried_one here) (stack work depth) < turns cs here (stack work depth)
+  tried_turns = tried_less cs here (stack work depth) p t.more
 
-          module _ (within : a.within (base (stack work depth) ++ p ∷ []) ≡ true) (unbeaten : verdict ≡ false) where
-            ahead : beats a w.holds.stands.found (base (stack work depth) ++ p ∷ []) ≡ false
-            ahead = sym beats_is ∙ unbeaten
+  module _ (unspent : v ≡ allowance → ⊥) where
+    with_tried : Holds loaded a cs allowance old (tried_one here) (stack work depth) best setting (v + 1) → Walks loaded a links cs allowance old (tried_one here) depth work best setting (v + 1)
+    with_tried h = record { deep = t.walks.deep; long = t.walks.long; same = t.walks.same; holds = h }
 
-            -- at the last link it is the best so far
-            module _ (last : links ≤ depth + 1) (new : List Pair) (new_is : new ≡ (map (λ r. r.pair) (take depth work) ++ p ∷ []) ++ drop (depth + 1) setting) (again : WorkRow B T) (count : ℕ) (count_is : count ≡ length (get_or work depth again).candidates.items) where
-              new_setting : new ≡ (base (stack work depth) ++ p ∷ []) ++ drop (suc (length (stack work depth))) setting
-              new_setting =
-                  let up : depth + 1 ≡ suc (length (stack work depth)) = omega (arith, height) in
-                  new_is ∙ ap₂ (λ s n. (s ++ p ∷ []) ++ drop n setting) (sym (base_reverse (take depth work))) up
+    -- the selection with it is not within
+    pub outside_walks : a.within (base (stack work depth) ++ p ∷ []) ≡ false → Walks loaded a links cs allowance old (tried_one here) depth work best setting (v + 1)
+    outside_walks e = with_tried (passed loaded a cs t.laws t.lawful allowance old t.walks.holds p t.more t.at unspent (inl e))
 
-              few : length (row_of cs (stack work depth)) ≤ count
-              few = omega (arith, ap length (row_at links cs work depth w.long w.same w.deep again))
+    module _ (total : T) (total_is : total ≡ a.total (base (stack work depth) ++ p ∷ [])) (verdict : Bool) (verdict_is : verdict ≡ beaten a best total) where
+      beats_is : verdict ≡ beats a t.walks.holds.stands.found (base (stack work depth) ++ p ∷ [])
+      beats_is = verdict_is ∙ beaten_is a t.walks.holds.stands.found best total (base (stack work depth) ++ p ∷ []) t.walks.holds.stands.best_is total_is
 
-              pub best_walks : Walks loaded a links cs allowance old (closed (beaten a (Some total) here.total) count (tried_one here)) depth work (Some total) new (v + 1)
-              best_walks =
-                  let deep = w.deep in
-                  let end : length cs ≡ suc (length (stack work depth)) = omega (arith, height, links_is) in
-                  record {
-                    deep = w.deep;
-                    long = w.long;
-                    same = w.same;
-                    holds = close loaded a cs laws lawful allowance old (kept loaded a cs laws lawful allowance old w.holds p more at unspent within ahead end total total_is new new_setting) count few;
-                  }
+      -- the best so far totals no t.more
+      pub beaten_walks : verdict ≡ true → Walks loaded a links cs allowance old (tried_one here) depth work best setting (v + 1)
+      beaten_walks e = with_tried (passed loaded a cs t.laws t.lawful allowance old t.walks.holds p t.more t.at unspent (inr (sym beats_is ∙ e)))
 
-              pub best_less : turns cs (closed (beaten a (Some total) here.total) count (tried_one here)) (stack work depth) < turns cs here (stack work depth)
-              best_less = omega (arith, tried_turns, close_no_more cs (beaten a (Some total) here.total) count (tried_one here) (stack work depth) few)
+      module _ (within : a.within (base (stack work depth) ++ p ∷ []) ≡ true) (unbeaten : verdict ≡ false) where
+        ahead : beats a t.walks.holds.stands.found (base (stack work depth) ++ p ∷ []) ≡ false
+        ahead = sym beats_is ∙ unbeaten
 
-            -- at another link the search goes on to the next
-            module _ (not_last : depth + 1 < links) (again new : WorkRow B T) (new_is : new ≡ record { candidates = (get_or work depth again).candidates; level = tried_one here; pair = p }) (fresh : Level B T) (load : B) (fresh_is : fresh ≡ record { load = load; total = total; tried = 0 }) (load_is : load ≡ loaded (base (stack work depth) ++ p ∷ [])) where
-              untried : fresh.tried ≡ 0
-              untried = ap (λ l. l.tried) fresh_is
+        -- at the last link it is the best so far
+        module _ (last : links ≤ depth + 1) (new : List Pair) (new_is : new ≡ (map (λ r. r.pair) (take depth work) ++ p ∷ []) ++ drop (depth + 1) setting) (again : WorkRow B T) (count : ℕ) (count_is : count ≡ length (get_or work depth again).candidates.items) where
+          new_setting : new ≡ (base (stack work depth) ++ p ∷ []) ++ drop (suc (length (stack work depth))) setting
+          new_setting =
+              let up : depth + 1 ≡ suc (length (stack work depth)) = omega (arith, height links depth work t.walks.deep t.walks.long) in
+              new_is ∙ ap₂ (λ s n. (s ++ p ∷ []) ++ drop n setting) (sym (base_reverse (take depth work))) up
 
-              inside : depth < length work
-              inside = let long = w.long in omega arith
+          few : length (row_of cs (stack work depth)) ≤ count
+          few = omega (arith, ap length (row_at links cs work depth t.walks.long t.walks.same t.walks.deep again))
 
-              pushed : stack (set work depth new) (depth + 1) ≡ new ∷ stack work depth
-              pushed = stack_push work depth new inside
+          pub best_walks : Walks loaded a links cs allowance old (closed (beaten a (Some total) here.total) count (tried_one here)) depth work (Some total) new (v + 1)
+          best_walks =
+              let deep = t.walks.deep in
+              let end : length cs ≡ suc (length (stack work depth)) = omega (arith, height links depth work t.walks.deep t.walks.long, count_links links cs work t.walks.long t.walks.same) in
+              record {
+                deep = t.walks.deep;
+                long = t.walks.long;
+                same = t.walks.same;
+                holds = close loaded a cs t.laws t.lawful allowance old (kept loaded a cs t.laws t.lawful allowance old t.walks.holds p t.more t.at unspent within ahead end total total_is new new_setting) count few;
+              }
 
-              pub next_walks : Walks loaded a links cs allowance old fresh (depth + 1) (set work depth new) best setting (v + 1)
-              next_walks =
-                  let on : suc (length (stack work depth)) < length cs = omega (arith, height, links_is) in
-                  record {
-                    deep = not_last;
-                    long = omega (arith, w.long, length-set work depth new);
-                    same = held_set links work depth new inside (ap (λ r. r.candidates.items) new_is ∙ kept_row) ∙ w.same;
-                    holds = subst (λ rs. Holds loaded a cs allowance old fresh rs best setting (v + 1)) (sym pushed)
-                        (deeper loaded a cs laws lawful allowance old w.holds p more at unspent within ahead on new (ap (λ r. r.level) new_is) (ap (λ r. r.pair) new_is) fresh (ap (λ l. l.load) fresh_is ∙ load_is) (ap (λ l. l.total) fresh_is ∙ total_is) untried);
-                  }
-                where
-                  kept_row : (get_or work depth again).candidates.items ≡ (get_or work depth new).candidates.items
-                  kept_row = ap (λ r. r.candidates.items) (get_or_default work depth again new inside)
+          pub best_less : turns cs (closed (beaten a (Some total) here.total) count (tried_one here)) (stack work depth) < turns cs here (stack work depth)
+          best_less = omega (arith, tried_turns, close_no_more cs (beaten a (Some total) here.total) count (tried_one here) (stack work depth) few)
 
-              pub next_less : turns cs fresh (stack (set work depth new) (depth + 1)) < turns cs here (stack work depth)
-              next_less =
-                  let on : suc (length (stack work depth)) < length cs = omega (arith, height, links_is) in
-                  let less : turns cs fresh (new ∷ stack work depth) < turns cs here (stack work depth) = deeper_less cs here (stack work depth) p more on new (ap (λ r. r.level) new_is) fresh untried in
-                  subst (λ rs. turns cs fresh rs < turns cs here (stack work depth)) (sym pushed) less
+        -- at another link the search goes on to the next
+        module _ (not_last : depth + 1 < links) (again new : WorkRow B T) (new_is : new ≡ record { candidates = (get_or work depth again).candidates; level = tried_one here; pair = p }) (fresh : Level B T) (load : B) (fresh_is : fresh ≡ record { load = load; total = total; tried = 0 }) (load_is : load ≡ loaded (base (stack work depth) ++ p ∷ [])) where
+          untried : fresh.tried ≡ 0
+          untried = ap (λ l. l.tried) fresh_is
+
+          inside : depth < length work
+          inside = let long = t.walks.long in omega arith
+
+          pushed : stack (set work depth new) (depth + 1) ≡ new ∷ stack work depth
+          pushed = stack_push work depth new inside
+
+          pub next_walks : Walks loaded a links cs allowance old fresh (depth + 1) (set work depth new) best setting (v + 1)
+          next_walks =
+              let on : suc (length (stack work depth)) < length cs = omega (arith, height links depth work t.walks.deep t.walks.long, count_links links cs work t.walks.long t.walks.same) in
+              record {
+                deep = not_last;
+                long = omega (arith, t.walks.long, length-set work depth new);
+                same = held_set links work depth new inside (ap (λ r. r.candidates.items) new_is ∙ kept_row) ∙ t.walks.same;
+                holds = subst (λ rs. Holds loaded a cs allowance old fresh rs best setting (v + 1)) (sym pushed)
+                    (deeper loaded a cs t.laws t.lawful allowance old t.walks.holds p t.more t.at unspent within ahead on new (ap (λ r. r.level) new_is) (ap (λ r. r.pair) new_is) fresh (ap (λ l. l.load) fresh_is ∙ load_is) (ap (λ l. l.total) fresh_is ∙ total_is) untried);
+              }
+            where
+              kept_row : (get_or work depth again).candidates.items ≡ (get_or work depth new).candidates.items
+              kept_row = ap (λ r. r.candidates.items) (get_or_default work depth again new inside)
+
+          pub next_less : turns cs fresh (stack (set work depth new) (depth + 1)) < turns cs here (stack work depth)
+          next_less =
+              let on : suc (length (stack work depth)) < length cs = omega (arith, height links depth work t.walks.deep t.walks.long, count_links links cs work t.walks.long t.walks.same) in
+              let less : turns cs fresh (new ∷ stack work depth) < turns cs here (stack work depth) = deeper_less cs here (stack work depth) p t.more on new (ap (λ r. r.level) new_is) fresh untried in
+              subst (λ rs. turns cs fresh rs < turns cs here (stack work depth)) (sym pushed) less

@@ -20,19 +20,19 @@ laws g limit measure =
 no_pairs : Selection []
 no_pairs = record { few = omega arith; each = tt }
 
--- every clause on other selections
+-- the clause on other selections, wherever the search ends
 least : (g : given.Over) (limit : g.row.L.Denot) (measure : g.row.M.Denot) (table : _) → LawfulCandidates (candidates_of table) → LeastOfAll (aim_of (g.L.Limit.breach limit) (g.M.Measure.totalled measure) (g.M.Measure.atmost measure)) (candidates_of table)
 least g limit measure table lawful = least_of_all _ (laws g limit measure) (candidates_of table) lawful
 
+-- the empty selection is not within
+outside_at : (g : given.Over) (c : goal.Then-breach_of-ne0 g) → eqb (g.L.Limit.breach c.args.limit.now []) 0 ≡ false
+outside_at g c = ne_eqb (g.L.Limit.breach c.args.limit.now []) 0 (λ e. c.if-breach_of-ne0.true (c.breach_of.ensures [] c.empty_load.ensures no_pairs ∙ e))
+
 pub returns-then-breach_of-ne0-clause-told : goal.returns-then-breach_of-ne0-clause-told
-returns-then-breach_of-ne0-clause-told g c =
-    let outside : eqb (g.L.Limit.breach c.args.limit.now []) 0 ≡ false = ne_eqb (g.L.Limit.breach c.args.limit.now []) 0 (λ e. c.if-breach_of-ne0.true (c.breach_of.ensures [] c.empty_load.ensures no_pairs ∙ e)) in
-    outside_told _ (laws g c.args.limit.now c.args.measure.now) (candidates_of c.args.table.now) c.args.allowance c.requires.lawful outside
+returns-then-breach_of-ne0-clause-told g c = outside_told _ (laws g c.args.limit.now c.args.measure.now) (candidates_of c.args.table.now) c.args.allowance c.requires.lawful (outside_at g c)
 
 pub returns-then-breach_of-ne0-clause-setting : goal.returns-then-breach_of-ne0-clause-setting
-returns-then-breach_of-ne0-clause-setting g c =
-    let outside : eqb (g.L.Limit.breach c.args.limit.now []) 0 ≡ false = ne_eqb (g.L.Limit.breach c.args.limit.now []) 0 (λ e. c.if-breach_of-ne0.true (c.breach_of.ensures [] c.empty_load.ensures no_pairs ∙ e)) in
-    λ _. outside_placed _ (laws g c.args.limit.now c.args.measure.now) (candidates_of c.args.table.now) c.args.setting.now c.requires.lawful outside
+returns-then-breach_of-ne0-clause-setting g c = λ _. outside_placed _ (laws g c.args.limit.now c.args.measure.now) (candidates_of c.args.table.now) c.args.setting.now c.requires.lawful (outside_at g c)
 
 pub returns-then-breach_of-ne0-clause-least : goal.returns-then-breach_of-ne0-clause-least
 returns-then-breach_of-ne0-clause-least g c = least g c.args.limit.now c.args.measure.now c.args.table.now c.requires.lawful
