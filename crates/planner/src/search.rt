@@ -12,7 +12,7 @@ use crate::work_row::{Level, WorkRow};
 use crate::work_table::{lay_out, write_setting};
 use limits::{GAP_COUNT, Limit, Measure, Pair};
 
-/// Searches the candidates of all links for the setting that the measure makes least under the limit.
+/// Searches the candidates of all links for the first setting within the limit that the measure totals least.
 pub(crate) fn search<L: Limit, M: Measure>(
     table: &[[Option<Pair>; GAP_COUNT]],
     limit: &L,
