@@ -1,7 +1,7 @@
 -- A selection of other pairs than the candidates gives way to one of candidates, which is within and totals no more.
-use Rattle.std.proofs.Common.{◌≡◌, suc, ◌<◌, Bool, true, false, ◌&&◌, leb, eqb, List, [], ◌∷◌, ◌++◌, map, length, refl, ap, inl, inr, arith}
+use Rattle.std.proofs.Common.{◌≡◌, suc, ◌<◌, true, false, ◌&&◌, leb, eqb, List, [], ◌∷◌, map, length, refl, ap, inl, inr, arith}
 use Rattle.std.specs.List.{AllByRecursion, flat_map, list_any}
-use Rattle.std.proofs.lemmas.Bool.{both_ways, and_parts, or_cases, eqb-true, leb-true}
+use Rattle.std.proofs.lemmas.Bool.{both_ways, and_parts, eqb-true, leb-true}
 use Rattle.limits.specs.declared.pair.Pair.{Pair}
 use Rattle.limits.specs.Gaps.{eight_gaps}
 use Rattle.limits.specs.Lawful.{lawful}
@@ -12,26 +12,8 @@ use Rattle.planner.specs.Selections.{complete}
 use Rattle.planner.specs.Table.{LawfulCandidates}
 use Rattle.planner.proofs.Chosen.{named_least}
 use Rattle.planner.proofs.Edges.{named_empty}
-use Rattle.planner.proofs.Left.{Laws}
-use Rattle.planner.proofs.Members.{In, all_in, kept_in}
-
-any_found : {X : Type 0} (f : X → Bool) (xs : List X) → list_any f xs ≡ true → (x : X) × In x xs × (f x ≡ true)
-any_found f [] e = absurd (both_ways false refl e)
-any_found f (x ∷ xs) e = elim (or_cases (f x) (list_any f xs) e) [ inl h ↦ (x, inl refl, h) | inr h ↦ let r = any_found f xs h in (r.0, inr r.1, r.2) ]
-
-in_left : {X : Type 0} (x : X) (xs ys : List X) → In x xs → In x (xs ++ ys)
-in_left x [] ys i = absurd i
-in_left x (z ∷ xs) ys (inl e) = inl e
-in_left x (z ∷ xs) ys (inr i) = inr (in_left x xs ys i)
-
-in_right : {X : Type 0} (x : X) (xs ys : List X) → In x ys → In x (xs ++ ys)
-in_right x [] ys i = i
-in_right x (z ∷ xs) ys i = inr (in_right x xs ys i)
-
-in_map : {X Y : Type 0} (f : X → Y) (x : X) (xs : List X) → In x xs → In (f x) (map f xs)
-in_map f x [] i = absurd i
-in_map f x (z ∷ xs) (inl e) = inl (ap f e)
-in_map f x (z ∷ xs) (inr i) = inr (in_map f x xs i)
+use Rattle.planner.proofs.Laws.{Laws}
+use Rattle.planner.proofs.Members.{In, all_in, kept_in, any_found, in_left, in_right, in_map}
 
 -- a candidate of the first link goes with a complete selection of the others
 in_complete : (c : List Pair) (ss : List (List Pair)) (p : Pair) (s : List Pair) → In p c → In s ss → In (p ∷ s) (flat_map (λ q. map (λ t. q ∷ t) ss) c)
@@ -48,6 +30,7 @@ record Replaced (cs : List (List Pair)) (t s : List Pair) : Type 0 where
   long_new : length s ≡ length cs
   long_old : length t ≡ length cs
 
+-- there is one
 replaced : (cs : List (List Pair)) (t : List Pair) → AllByRecursion (λ c. AllByRecursion Lawful c) cs → raised_candidates cs t ≡ true → (s : List Pair) × Replaced cs t s
 replaced [] [] l e = ([], record { complete_one = inl refl; lowered = tt; lawful_new = tt; lawful_old = tt; long_new = refl; long_old = refl })
 replaced [] (p ∷ t) l e = absurd (both_ways false refl e)

@@ -3,9 +3,18 @@ use Rattle.std.proofs.Common.{◌≡◌, ℕ, Bool, true, false, List, ◌++◌}
 use Rattle.std.proofs.lemmas.Bool.{eq-eqb, eqb-true}
 use Rattle.limits.specs.declared.pair.Pair.{Pair}
 use Rattle.limits.specs.Selection.{Selection, Lowered}
-use Rattle.planner.specs.Named.{aim_of}
-use Rattle.planner.proofs.Left.{Laws}
+use Rattle.planner.specs.Named.{Aim, no_more, aim_of}
+use Rattle.planner.proofs.Fold.{Ranks}
 
+-- the laws of the limit and the measure
+pub record Laws {T : Type 0} (a : Aim T) : Type 0 where
+  pub ranks : Ranks a.at_most
+  pub begins_within : (xs ys : List Pair) → Selection (xs ++ ys) → a.within (xs ++ ys) ≡ true → a.within xs ≡ true
+  pub begins_less : (xs ys : List Pair) → Selection (xs ++ ys) → no_more a xs (xs ++ ys) ≡ true
+  pub lowers_within : (xs ys : List Pair) → Selection xs → Selection ys → Lowered xs ys → a.within ys ≡ true → a.within xs ≡ true
+  pub lowers_less : (xs ys : List Pair) → Selection xs → Selection ys → Lowered xs ys → no_more a xs ys ≡ true
+
+-- those that a trait asks for
 module _ {T : Type 0} (breach : List Pair → ℕ) (total : List Pair → T) (at_most : T → T → Bool) where
   pub laws_of :
       ((xs ys : List Pair) → Selection (xs ++ ys) → breach (xs ++ ys) ≡ 0 → breach xs ≡ 0)

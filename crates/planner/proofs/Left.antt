@@ -4,30 +4,24 @@ use Rattle.std.specs.List.{AllByRecursion}
 use Rattle.std.proofs.lemmas.Bool.{both_ways, and_left, and_right, not_from_true, cases_Bool, cond-false}
 use Rattle.std.proofs.lemmas.List.{map-append}
 use Rattle.limits.specs.declared.pair.Pair.{Pair}
-use Rattle.limits.specs.Selection.{max_pairs, Lawful, Selection, Lowered}
-use Rattle.planner.specs.Named.{Aim, no_more}
+use Rattle.limits.specs.Selection.{max_pairs, Lawful, Selection}
+use Rattle.planner.specs.Named.{Aim}
 use Rattle.planner.specs.Selections.{parent, partial}
-use Rattle.planner.proofs.Fold.{Ranks, beats, next, final, seen, seens}
+use Rattle.planner.proofs.Fold.{beats, next, final, seen, seens}
+use Rattle.planner.proofs.Laws.{Laws}
 use Rattle.planner.proofs.Members.{all_append, all_front, all_map, all_weaker}
 use Rattle.planner.proofs.Order.{full}
 
--- the laws of the limit and the measure
-pub record Laws {T : Type 0} (a : Aim T) : Type 0 where
-  pub ranks : Ranks a.at_most
-  pub begins_within : (xs ys : List Pair) → Selection (xs ++ ys) → a.within (xs ++ ys) ≡ true → a.within xs ≡ true
-  pub begins_less : (xs ys : List Pair) → Selection (xs ++ ys) → no_more a xs (xs ++ ys) ≡ true
-  pub lowers_within : (xs ys : List Pair) → Selection xs → Selection ys → Lowered xs ys → a.within ys ≡ true → a.within xs ≡ true
-  pub lowers_less : (xs ys : List Pair) → Selection xs → Selection ys → Lowered xs ys → no_more a xs ys ≡ true
-
--- selections
+-- ---- selections
 pub selection_append : (s y : List Pair) → AllByRecursion Lawful s → AllByRecursion Lawful y → length s + length y ≤ max_pairs → Selection (s ++ y)
 selection_append s y l m h = record { few = simp length-append h; each = all_append Lawful s y l m }
 
+-- the parent of a selection with one more pair
 pub parent_push : (s : List Pair) (p : Pair) → parent (s ++ p ∷ []) ≡ s
 parent_push s p = take_at s (p ∷ []) (length (s ++ p ∷ []) - 1) (simp length-append (omega arith))
 
 -- what `partial` lists: at most k lawful pairs, of which one is the last
-pub record Fit (k : ℕ) (y : List Pair) : Type 0 where
+record Fit (k : ℕ) (y : List Pair) : Type 0 where
   pub front : List Pair
   pub last : Pair
   pub is : y ≡ front ++ last ∷ []
@@ -49,16 +43,18 @@ fit_blocks k (q ∷ qs) cs l f = (
       (fit_blocks k qs cs l.1 f),
 )
 
+-- what `partial` lists for k links
 fits : (cs : List (List Pair)) → AllByRecursion (λ c. AllByRecursion Lawful c) cs → AllByRecursion (Fit (length cs)) (partial cs)
 fits [] l = tt
 fits (c ∷ cs) l = fit_blocks (length cs) c cs l.0 (fits cs l.1)
 
 module _ {T : Type 0} (a : Aim T) (cs : List (List Pair)) where
-  -- with this best so far and v visits made, the walk along ps ends as the whole does
+  -- with this best so far, the visits made and those along ps are the visits of the whole, and both walks end with the same best
   pub record Owes (b : Option (List Pair)) (v : ℕ) (ps : List (List Pair)) : Type 0 where
     pub count : v + seens a cs b ps ≡ seens a cs None (partial cs)
     pub ends : final a cs b ps ≡ final a cs None (partial cs)
 
+  -- at the start
   pub owes_whole : Owes None 0 (partial cs)
   owes_whole = record { count = zero-add (seens a cs None (partial cs)); ends = refl }
 
@@ -74,15 +70,18 @@ module _ {T : Type 0} (a : Aim T) (cs : List (List Pair)) where
   skip_ends b [] qs i = refl
   skip_ends b (p ∷ ps) qs i = ap (λ n. final a cs n (ps ++ qs)) i.0.1 ∙ skip_ends b ps qs i.1
 
+  -- past what is not visited
   pub owes_skip : (b : Option (List Pair)) (v : ℕ) (ps qs : List (List Pair)) → AllByRecursion (Idle b) ps → Owes b v (ps ++ qs) → Owes b v qs
   owes_skip b v ps qs i o = record { count = ap (λ k. v + k) (sym (skip_count b ps qs i)) ∙ o.count; ends = sym (skip_ends b ps qs i) ∙ o.ends }
 
+  -- past one that is visited
   pub owes_visit : (b : Option (List Pair)) (v : ℕ) (p : List Pair) (ps : List (List Pair)) → seen a b p ≡ true → Owes b v (p ∷ ps) → Owes (next a cs b p) (v + 1) ps
   owes_visit b v p ps s o =
       let one : ◌≡◌ {A = ℕ} (cond (seen a b p) 1 0) 1 = ap (λ t. cond t 1 0) s in
       let c = o.count in
       record { count = omega arith; ends = o.ends }
 
+  -- where one more is visited, the visits are more
   pub owes_more : (b : Option (List Pair)) (v : ℕ) (p : List Pair) (ps : List (List Pair)) → seen a b p ≡ true → Owes b v (p ∷ ps) → v < seens a cs None (partial cs)
   owes_more b v p ps s o =
       let one : ◌≡◌ {A = ℕ} (cond (seen a b p) 1 0) 1 = ap (λ t. cond t 1 0) s in
@@ -93,10 +92,12 @@ module _ {T : Type 0} (a : Aim T) (cs : List (List Pair)) where
   abbrev pub Lost : Option (List Pair) → List Pair → Type 0
   Lost b s = (a.within s ≡ false) ⊎ (beats a b s ≡ true)
 
+  -- it is not visited
   lost_test : (b : Option (List Pair)) (s : List Pair) → Lost b s → (a.within s && not (beats a b s)) ≡ false
   lost_test b s (inl e) = and_left (a.within s) (not (beats a b s)) e
   lost_test b s (inr e) = and_right (a.within s) (not (beats a b s)) (not_from_true (beats a b s) e)
 
+  -- the best stays
   pub lost_next : (b : Option (List Pair)) (s : List Pair) → Lost b s → next a cs b s ≡ b
   lost_next b s lost =
       cond-false (full cs s && (a.within s && not (beats a b s))) (Some s) b
@@ -107,10 +108,12 @@ module _ {T : Type 0} (a : Aim T) (cs : List (List Pair)) where
     beats_on None s y l e = e
     beats_on (Some t) s y l e = laws.ranks.chained (a.total t) (a.total s) (a.total (s ++ y)) e (laws.begins_less s y l)
 
+    -- what goes on from it is lost too
     lost_on : (b : Option (List Pair)) (s y : List Pair) → Selection (s ++ y) → Lost b s → Lost b (s ++ y)
     lost_on b s y l (inl e) = elim (cases_Bool (a.within (s ++ y))) [ inl t ↦ absurd (both_ways (a.within s) e (laws.begins_within s y l t)) | inr f ↦ inl f ]
     lost_on b s y l (inr e) = inr (beats_on b s y l e)
 
+    -- what goes on from it by some pairs
     idle_one : (b : Option (List Pair)) (s front : List Pair) (last : Pair) → AllByRecursion Lawful s → AllByRecursion Lawful (front ++ last ∷ []) → length s + length (front ++ last ∷ []) ≤ max_pairs → Lost b s → Idle b (s ++ (front ++ last ∷ []))
     idle_one b s front last l m h lost =
         let few : length s + length front ≤ max_pairs = omega (arith, h, length-append front (last ∷ [])) in

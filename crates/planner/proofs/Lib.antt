@@ -16,3 +16,4 @@ pub mod Exchanged
 pub mod Present
 pub mod Walk
 pub mod Laws
+pub mod Told

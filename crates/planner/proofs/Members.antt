@@ -1,83 +1,98 @@
 -- What stands in a list, and the tests that look through one.
-use Rattle.std.proofs.Common.{◌≡◌, Bool, true, false, cond, ◌&&◌, ◌||◌, List, [], ◌∷◌, ◌++◌, map, filter, ◌⊎◌, inl, inr, refl, sym, ap, ap₂, ◌∙◌}
+use Rattle.std.proofs.Common.{◌≡◌, ℕ, zero, suc, drop, Bool, true, false, cond, ◌&&◌, ◌||◌, List, [], ◌∷◌, ◌++◌, map, filter, ◌⊎◌, inl, inr, refl, sym, ap, ap₂, ◌∙◌}
 use Rattle.std.specs.List.{AllByRecursion, list_any, list_all}
-use Rattle.std.proofs.lemmas.Bool.{both_ways, and_from, and_parts, or_left, or_right}
+use Rattle.std.proofs.lemmas.Bool.{both_ways, and_from, and_parts, or_left, or_right, or_cases}
 
 -- x is one of the elements
 abbrev pub In : {X : Type 0} → X → List X → Type 0
 In x [] = ⊥
 In x (y ∷ ys) = (x ≡ y) ⊎ In x ys
 
--- what holds of each element
+-- ---- what holds of each element
 module _ {X : Type 0} (P : X → Type 0) where
+  -- what holds of everything
   pub all_every : ((x : X) → P x) → (xs : List X) → AllByRecursion P xs
   all_every h [] = tt
   all_every h (x ∷ xs) = (h x, all_every h xs)
 
+  -- of both parts
   pub all_append : (xs ys : List X) → AllByRecursion P xs → AllByRecursion P ys → AllByRecursion P (xs ++ ys)
   all_append [] ys a b = b
   all_append (x ∷ xs) ys a b = (a.0, all_append xs ys a.1 b)
 
+  -- of the first part
   pub all_front : (xs ys : List X) → AllByRecursion P (xs ++ ys) → AllByRecursion P xs
   all_front [] ys a = tt
   all_front (x ∷ xs) ys a = (a.0, all_front xs ys a.1)
 
+  -- of what a function gives
   pub all_map : {Y : Type 0} (f : Y → X) (ys : List Y) → AllByRecursion (λ y. P (f y)) ys → AllByRecursion P (map f ys)
   all_map f [] a = tt
   all_map f (y ∷ ys) a = (a.0, all_map f ys a.1)
 
+  -- of each, what follows from it
   pub all_weaker : (Q : X → Type 0) → ((x : X) → P x → Q x) → (xs : List X) → AllByRecursion P xs → AllByRecursion Q xs
   all_weaker Q h [] a = tt
   all_weaker Q h (x ∷ xs) a = (h x a.0, all_weaker Q h xs a.1)
 
+  -- of one of them
   pub all_in : (xs : List X) (x : X) → AllByRecursion P xs → In x xs → P x
   all_in [] x a i = absurd i
   all_in (y ∷ ys) x a (inl e) = rw e a.0
   all_in (y ∷ ys) x a (inr i) = all_in ys x a.1 i
 
+  -- of all, as it does of each
   pub all_from_in : (xs : List X) → ((x : X) → In x xs → P x) → AllByRecursion P xs
   all_from_in [] h = tt
   all_from_in (x ∷ xs) h = (h x (inl refl), all_from_in xs (λ y i. h y (inr i)))
 
+-- an element of two lists joined stands in one of them
 pub in_append : {X : Type 0} (xs ys : List X) (x : X) → In x (xs ++ ys) → In x xs ⊎ In x ys
 in_append [] ys x i = inr i
 in_append (y ∷ xs) ys x (inl e) = inl (inl e)
 in_append (y ∷ xs) ys x (inr i) = elim (in_append xs ys x i) [ inl j ↦ inl (inr j) | inr j ↦ inr j ]
 
+-- the element in the middle stands in the list
 pub in_middle : {X : Type 0} (xs : List X) (x : X) (ys : List X) → In x (xs ++ x ∷ ys)
 in_middle [] x ys = inl refl
 in_middle (y ∷ xs) x ys = inr (in_middle xs x ys)
 
--- what a test finds
+-- ---- what a test finds
 module _ {X : Type 0} (f : X → Bool) where
+  -- two tests that agree find the same
   pub any_same : (h : X → Bool) (xs : List X) → AllByRecursion (λ x. f x ≡ h x) xs → list_any f xs ≡ list_any h xs
   any_same h [] a = refl
   any_same h (x ∷ xs) a = ap₂ (λ b c. b || c) a.0 (any_same h xs a.1)
 
+  -- nothing passes a test that each fails
   pub any_none : (xs : List X) → AllByRecursion (λ x. f x ≡ false) xs → list_any f xs ≡ false
   any_none [] a = refl
   any_none (x ∷ xs) a = ap (λ b. b || list_any f xs) a.0 ∙ any_none xs a.1
 
+  -- an element that passes is found
   pub any_in : (xs : List X) (x : X) → In x xs → f x ≡ true → list_any f xs ≡ true
   any_in [] x i e = absurd i
   any_in (y ∷ ys) x (inl p) e = or_left (f y) (list_any f ys) (ap f (sym p) ∙ e)
   any_in (y ∷ ys) x (inr i) e = or_right (f y) (list_any f ys) (any_in ys x i e)
 
+  -- all pass, as each does
   pub every_from_in : (xs : List X) → ((x : X) → In x xs → f x ≡ true) → list_all f xs ≡ true
   every_from_in [] h = refl
   every_from_in (x ∷ xs) h = and_from (f x) (list_all f xs) (h x (inl refl)) (every_from_in xs (λ y i. h y (inr i)))
 
+  -- each passes, as all do
   pub every_in : (xs : List X) (x : X) → list_all f xs ≡ true → In x xs → f x ≡ true
   every_in [] x e i = absurd i
   every_in (y ∷ ys) x e (inl p) = ap f p ∙ (and_parts (f y) (list_all f ys) e).0
   every_in (y ∷ ys) x e (inr i) = every_in ys x (and_parts (f y) (list_all f ys) e).1 i
 
--- what a filter keeps
+-- ---- what a filter keeps
 module _ {X : Type 0} (f : X → Bool) where
   any_cond : (h : X → Bool) (b : Bool) (x : X) (ys : List X) → list_any h (cond b (x ∷ ys) ys) ≡ ((b && h x) || list_any h ys)
   any_cond h true x ys = refl
   any_cond h false x ys = refl
 
+  -- a test finds in what a filter keeps what passes both
   pub any_kept : (h : X → Bool) (xs : List X) → list_any h (filter f xs) ≡ list_any (λ x. f x && h x) xs
   any_kept h [] = refl
   any_kept h (x ∷ xs) = any_cond h (f x) x (filter f xs) ∙ ap (λ b. (f x && h x) || b) (any_kept h xs)
@@ -87,6 +102,7 @@ module _ {X : Type 0} (f : X → Bool) where
   in_cond true x y ys (inr i) = inr i
   in_cond false x y ys i = inr i
 
+  -- what is kept stands in the list and passes
   pub in_kept : (xs : List X) (x : X) → In x (filter f xs) → In x xs × (f x ≡ true)
   in_kept [] x i = absurd i
   in_kept (y ∷ ys) x i = elim (in_cond (f y) y x (filter f ys) i) [ inl e ↦ (inl e.0, ap f e.0 ∙ e.1) | inr j ↦ (inr (in_kept ys x j).0, (in_kept ys x j).1) ]
@@ -97,6 +113,7 @@ module _ {X : Type 0} (f : X → Bool) where
   cond_in false x y ys (inl e) = absurd (both_ways false refl e.1)
   cond_in false x y ys (inr i) = i
 
+  -- what stands in the list and passes is kept
   pub kept_in : (xs : List X) (x : X) → In x xs → f x ≡ true → In x (filter f xs)
   kept_in [] x i e = absurd i
   kept_in (y ∷ ys) x (inl p) e = cond_in (f y) y x (filter f ys) (inl (p, ap f (sym p) ∙ e))
@@ -106,6 +123,35 @@ module _ {X : Type 0} (f : X → Bool) where
   map_cond h true x ys = refl
   map_cond h false x ys = refl
 
+-- a filter of what a function gives
 pub filter_map_of : {X Y : Type 0} (f : Y → Bool) (h : X → Y) (xs : List X) → filter f (map h xs) ≡ map h (filter (λ x. f (h x)) xs)
 filter_map_of f h [] = refl
 filter_map_of f h (x ∷ xs) = ap (λ ys. cond (f (h x)) (h x ∷ ys) ys) (filter_map_of f h xs) ∙ map_cond (λ z. f (h z)) h (f (h x)) x (filter (λ z. f (h z)) xs)
+
+-- where a test finds something, an element passes
+pub any_found : {X : Type 0} (f : X → Bool) (xs : List X) → list_any f xs ≡ true → (x : X) × In x xs × (f x ≡ true)
+any_found f [] e = absurd (both_ways false refl e)
+any_found f (x ∷ xs) e = elim (or_cases (f x) (list_any f xs) e) [ inl h ↦ (x, inl refl, h) | inr h ↦ let r = any_found f xs h in (r.0, inr r.1, r.2) ]
+
+-- an element of the first list stands in both joined
+pub in_left : {X : Type 0} (x : X) (xs ys : List X) → In x xs → In x (xs ++ ys)
+in_left x [] ys i = absurd i
+in_left x (z ∷ xs) ys (inl e) = inl e
+in_left x (z ∷ xs) ys (inr i) = inr (in_left x xs ys i)
+
+-- and one of the second
+pub in_right : {X : Type 0} (x : X) (xs ys : List X) → In x ys → In x (xs ++ ys)
+in_right x [] ys i = i
+in_right x (z ∷ xs) ys i = inr (in_right x xs ys i)
+
+-- what a function gives of an element
+pub in_map : {X Y : Type 0} (f : X → Y) (x : X) (xs : List X) → In x xs → In (f x) (map f xs)
+in_map f x [] i = absurd i
+in_map f x (z ∷ xs) (inl e) = inl (ap f e)
+in_map f x (z ∷ xs) (inr i) = inr (in_map f x xs i)
+
+-- what holds of each holds of each behind the first n
+pub all_drop : {X : Type 0} (P : X → Type 0) (n : ℕ) (xs : List X) → AllByRecursion P xs → AllByRecursion P (drop n xs)
+all_drop P zero xs a = a
+all_drop P (suc n) [] a = a
+all_drop P (suc n) (x ∷ xs) a = all_drop P n xs a.1

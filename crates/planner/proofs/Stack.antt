@@ -8,7 +8,7 @@ use Rattle.planner.specs.Work.{held}
 use Rattle.planner.proofs.Left.{nodes}
 
 -- a write behind the pairs that stand already
-pub put : {X : Type 0} (us ys : List X) (i : ℕ) (x : X) → length us ≡ i → i < length ys → set (us ++ drop i ys) i x ≡ (us ++ x ∷ []) ++ drop (i + 1) ys
+put : {X : Type 0} (us ys : List X) (i : ℕ) (x : X) → length us ≡ i → i < length ys → set (us ++ drop i ys) i x ≡ (us ++ x ∷ []) ++ drop (i + 1) ys
 put us ys i x e h = ap (λ zs. set (us ++ zs) i x) (drop_more ys i x h) ∙ set_at us (get_or ys i x) (drop (i + 1) ys) x i e ∙ sym (append_assoc us (x ∷ []) (drop (i + 1) ys))
 
 module _ {B T : Type 0} where
@@ -16,6 +16,7 @@ module _ {B T : Type 0} where
   abbrev pub stack : List (WorkRow B T) → ℕ → List (WorkRow B T)
   stack work depth = reverse (take depth work)
 
+  -- there are as many as links before
   pub stack_length : (work : List (WorkRow B T)) (depth : ℕ) → depth ≤ length work → length (stack work depth) ≡ depth
   stack_length work depth h = length-reverse (take depth work) ∙ length-take-le depth work h
 
@@ -36,6 +37,7 @@ module _ {B T : Type 0} where
   base_last [] r = refl
   base_last (x ∷ rs) r = ap (λ s. s ++ x.pair ∷ []) (base_last rs r)
 
+  -- they are the pairs of the rows, from the first link on
   pub base_reverse : (rows : List (WorkRow B T)) → base (reverse rows) ≡ map (λ row. row.pair) rows
   base_reverse [] = refl
   base_reverse (r ∷ rows) = ap base (reverse-append (r ∷ []) rows) ∙ base_last (reverse rows) r ∙ ap (λ s. r.pair ∷ s) (base_reverse rows)
@@ -77,6 +79,7 @@ module _ {B T : Type 0} where
     abbrev pub row_of : List (WorkRow B T) → List Pair
     row_of rs = get_or cs (length rs) []
 
+    -- the candidates of the links after it
     abbrev pub below_of : List (WorkRow B T) → List (List Pair)
     below_of rs = drop (suc (length rs)) cs
 
@@ -84,6 +87,7 @@ module _ {B T : Type 0} where
     abbrev pub level_left : Level B T → List (WorkRow B T) → List (List Pair)
     level_left level rs = nodes (base rs) (drop level.tried (row_of rs)) (below_of rs)
 
+    -- what is left at the rows above
     abbrev pub rows_left : List (WorkRow B T) → List (List Pair)
     rows_left [] = []
     rows_left (r ∷ rs) = level_left r.level rs ++ rows_left rs
@@ -93,21 +97,26 @@ abbrev pub row_turns : ℕ → List Pair → ℕ
 row_turns each [] = 1
 row_turns each (p ∷ c) = each + row_turns each c
 
+-- of some links
 abbrev pub all_turns : List (List Pair) → ℕ
 all_turns [] = 0
 all_turns (c ∷ cs) = row_turns (suc (all_turns cs)) c
 
+-- a row takes a turn at least
 pub row_turns_pos : (each : ℕ) (c : List Pair) → 0 < row_turns each c
 row_turns_pos each [] = omega arith
 row_turns_pos each (p ∷ c) = omega (arith, row_turns_pos each c)
 
 module _ {B T : Type 0} (cs : List (List Pair)) where
+  -- of the link that is tried
   abbrev pub level_turns : Level B T → List (WorkRow B T) → ℕ
   level_turns level rs = row_turns (suc (all_turns (below_of cs rs))) (drop level.tried (row_of cs rs))
 
+  -- of the rows above
   abbrev pub rows_turns : List (WorkRow B T) → ℕ
   rows_turns [] = 0
   rows_turns (r ∷ rs) = level_turns r.level rs + rows_turns rs
 
+  -- of both
   abbrev pub turns : Level B T → List (WorkRow B T) → ℕ
   turns here rs = level_turns here rs + rows_turns rs

@@ -2,7 +2,7 @@
 use Rattle.std.proofs.Common.{◌≡◌, ℕ, zero, suc, ◌+◌, ◌<◌, ◌≤◌, Bool, true, false, not, ◌&&◌, if◌then◌else◌, ltb, leb, List, [], ◌∷◌, ◌++◌, map, length, get_or, drop, Some, None, Option, option_map, refl, sym, ap, ap₂, ◌∙◌, subst, subst₂, ◌⊎◌, inr, length-append, length-drop, append-nil, append_assoc, map-id, drop-cons, drop_at, arith}
 use Rattle.std.specs.List.{AllByRecursion}
 use Rattle.std.specs.Option.{option_map_or, IfSome}
-use Rattle.std.proofs.lemmas.Bool.{and_from, and_left, not_from_false, cond-true, cond-false, le-ltb, lt-ltb, lt-leb}
+use Rattle.std.proofs.lemmas.Bool.{and_from, and_left, not_from_false, cond-true, cond-false, lt-ltb, lt-leb}
 use Rattle.std.proofs.lemmas.List.{drop_more, drop_all}
 use Rattle.limits.specs.declared.pair.Pair.{Pair}
 use Rattle.limits.specs.Selection.{Lawful, Selection}
@@ -16,16 +16,14 @@ use Rattle.planner.specs.Selections.{partial}
 use Rattle.planner.specs.Table.{LawfulCandidates}
 use Rattle.planner.proofs.Chosen.{final_named}
 use Rattle.planner.proofs.Fold.{beats, next, seen, seens_all}
-use Rattle.planner.proofs.Left.{Laws, selection_append, parent_push, Owes, owes_whole, owes_skip, owes_visit, owes_more, Idle, Lost, lost_next, idle_all, nodes, nodes_cons}
-use Rattle.planner.proofs.Members.{all_append}
+use Rattle.planner.proofs.Laws.{Laws}
+use Rattle.planner.proofs.Left.{selection_append, parent_push, Owes, owes_whole, owes_skip, owes_visit, owes_more, Idle, Lost, lost_next, idle_all, nodes, nodes_cons}
+use Rattle.planner.proofs.Members.{all_append, all_drop}
 use Rattle.planner.proofs.Order.{full, full_long, full_short}
+use Rattle.planner.proofs.Told.{told_unspent}
 use Rattle.planner.proofs.Stack.{base, row_of, below_of, level_left, rows_left, row_turns, all_turns, row_turns_pos, level_turns, turns}
 
-all_drop : {X : Type 0} (P : X → Type 0) (n : ℕ) (xs : List X) → AllByRecursion P xs → AllByRecursion P (drop n xs)
-all_drop P zero xs a = a
-all_drop P (suc n) [] a = a
-all_drop P (suc n) (x ∷ xs) a = all_drop P n xs a.1
-
+-- the candidates of each link are lawful
 lawful_at : (cs : List (List Pair)) (k : ℕ) → AllByRecursion (λ c. AllByRecursion Lawful c) cs → AllByRecursion Lawful (get_or cs k [])
 lawful_at [] k a = tt
 lawful_at (c ∷ cs) zero a = a.0
@@ -36,22 +34,23 @@ abbrev pub tried_one : {B T : Type 0} → Level B T → Level B T
 tried_one level = record { load = level.load; total = level.total; tried = level.tried + 1 }
 
 -- a level is what its pairs come to, and they are within
-pub record Frame {B T : Type 0} (loaded : List Pair → B) (a : Aim T) (s : List Pair) (level : Level B T) : Type 0 where
+pub record Reached {B T : Type 0} (loaded : List Pair → B) (a : Aim T) (s : List Pair) (level : Level B T) : Type 0 where
   pub load : level.load ≡ loaded s
   pub total : level.total ≡ a.total s
   pub within : a.within s ≡ true
   pub lawful : AllByRecursion Lawful s
 
-abbrev pub Frames : {B T : Type 0} → (List Pair → B) → Aim T → List (WorkRow B T) → Type 0
-Frames loaded a [] = Unit {0}
-Frames loaded a (r ∷ rs) = Frame loaded a (base rs) r.level × Frames loaded a rs
+-- so is each row above
+abbrev AllReached : {B T : Type 0} → (List Pair → B) → Aim T → List (WorkRow B T) → Type 0
+AllReached loaded a [] = Unit {0}
+AllReached loaded a (r ∷ rs) = Reached loaded a (base rs) r.level × AllReached loaded a rs
 
 -- where the search stands between two turns, before it looks whether the best so far closes the level
 pub record Stands {B T : Type 0} (loaded : List Pair → B) (a : Aim T) (cs : List (List Pair)) (allowance : ℕ) (old : List Pair) (here : Level B T) (rs : List (WorkRow B T)) (best : Option T) (setting : List Pair) (v : ℕ) : Type 0 where
   pub deep : length rs < length cs
   pub room : length cs ≤ length setting
-  pub frame : Frame loaded a (base rs) here
-  pub frames : Frames loaded a rs
+  pub reached : Reached loaded a (base rs) here
+  pub above : AllReached loaded a rs
   pub spare : v ≤ allowance
   pub found : Option (List Pair)
   pub best_is : best ≡ option_map a.total found
@@ -68,6 +67,7 @@ pub record Holds {B T : Type 0} (loaded : List Pair → B) (a : Aim T) (cs : Lis
 abbrev pub beaten : {T : Type 0} → Aim T → Option T → T → Bool
 beaten a best total = option_map_or (λ least. a.at_most least total) best false
 
+-- it is whether the best so far beats the selection of that total
 pub beaten_is : {T : Type 0} (a : Aim T) (found : Option (List Pair)) (best : Option T) (total : T) (s : List Pair) → best ≡ option_map a.total found → total ≡ a.total s → beaten a best total ≡ beats a found s
 beaten_is a None best total s b t = ap (λ o. beaten a o total) b
 beaten_is a (Some x) best total s b t = ap₂ (λ o y. beaten a o y) b t
@@ -98,14 +98,14 @@ module _ {B T : Type 0} (loaded : List Pair → B) (a : Aim T) (cs : List (List 
     close_by st count h false e = record { stands = st; unbeaten = λ _. sym e }
     close_by st count h true e =
         let shut : Level B T = record { load = here.load; total = here.total; tried = count } in
-        let idle = level_idle st.found here rs st.frame.lawful (base_length rs) st.deep (inr (sym e)) in
+        let idle = level_idle st.found here rs st.reached.lawful (base_length rs) st.deep (inr (sym e)) in
         let left : Owes a cs st.found v (rows_left cs rs) = owes_skip a cs st.found v (level_left cs here rs) (rows_left cs rs) idle st.owes in
         record {
           stands = record {
             deep = st.deep;
             room = st.room;
-            frame = record { load = st.frame.load; total = st.frame.total; within = st.frame.within; lawful = st.frame.lawful };
-            frames = st.frames;
+            reached = record { load = st.reached.load; total = st.reached.total; within = st.reached.within; lawful = st.reached.lawful };
+            above = st.above;
             spare = st.spare;
             found = st.found;
             best_is = st.best_is;
@@ -118,7 +118,7 @@ module _ {B T : Type 0} (loaded : List Pair → B) (a : Aim T) (cs : List (List 
 
     -- a level is closed where the best so far is no more
     pub close : Stands loaded a cs allowance old here rs best setting v → (count : ℕ) → length (row_of cs rs) ≤ count → Holds loaded a cs allowance old (closed (beaten a best here.total) count here) rs best setting v
-    close st count h = close_by st count h (beaten a best here.total) (beaten_is a st.found best here.total (base rs) st.best_is st.frame.total)
+    close st count h = close_by st count h (beaten a best here.total) (beaten_is a st.found best here.total (base rs) st.best_is st.reached.total)
 
     -- a row is left for the one above it
     pub leave : {r : WorkRow B T} → Holds loaded a cs allowance old here (r ∷ rs) best setting v → length (row_of cs (r ∷ rs)) ≤ here.tried → Stands loaded a cs allowance old r.level rs best setting v
@@ -128,8 +128,8 @@ module _ {B T : Type 0} (loaded : List Pair → B) (a : Aim T) (cs : List (List 
         record {
           deep = omega arith;
           room = st.room;
-          frame = st.frames.0;
-          frames = st.frames.1;
+          reached = st.above.0;
+          above = st.above.1;
           spare = st.spare;
           found = st.found;
           best_is = st.best_is;
@@ -139,11 +139,6 @@ module _ {B T : Type 0} (loaded : List Pair → B) (a : Aim T) (cs : List (List 
         }
 
   -- the search is over
-  told_at : (found : Option (List Pair)) (best : Option T) (v : ℕ) → best ≡ option_map a.total found → named a cs ≡ found → v ≡ visits a cs → v ≤ allowance → outcome a cs allowance ≡ told_of a v found
-  told_at found best v b n c le =
-      cond-false (ltb allowance (visits a cs)) Spent (told_of a (visits a cs) (named a cs)) (le-ltb allowance (visits a cs) (omega arith))
-      ∙ ap₂ (told_of a) (sym c) n
-
   -- what the search tells at its end, by the best total and the visits
   abbrev pub told : Option T → ℕ → Outcome T
   told best v = option_map_or (λ total. Found total v) best (NoneWithin v)
@@ -162,14 +157,16 @@ module _ {B T : Type 0} (loaded : List Pair → B) (a : Aim T) (cs : List (List 
     named_found : named a cs ≡ h.stands.found
     named_found = final_named a laws.ranks cs some_links lawful h.stands.found (sym end_owes.ends)
 
+    -- what is told is the outcome
     pub end_told : told best v ≡ outcome a cs allowance
     end_told =
         let st = h.stands in
         let c = end_owes.count in
         let spare = st.spare in
         let all : v ≡ visits a cs = omega (arith, seens_all a laws.ranks cs some_links lawful) in
-        told_found st.found best v st.best_is ∙ sym (told_at st.found best v st.best_is named_found all spare)
+        told_found st.found best v st.best_is ∙ told_unspent a cs allowance v st.found all spare named_found
 
+    -- and the places hold the named setting
     pub end_placed : setting ≡ placed (named a cs) old
     end_placed = h.stands.setting_is ∙ ap (λ o. placed o old) (sym named_found)
 
@@ -180,8 +177,8 @@ module _ {B T : Type 0} (loaded : List Pair → B) (a : Aim T) (cs : List (List 
         stands = record {
           deep = some;
           room = room;
-          frame = record { load = load; total = total; within = within; lawful = tt };
-          frames = tt;
+          reached = record { load = load; total = total; within = within; lawful = tt };
+          above = tt;
           spare = omega arith;
           found = None;
           best_is = refl;
@@ -201,13 +198,6 @@ module _ {B T : Type 0} (loaded : List Pair → B) (a : Aim T) (cs : List (List 
 
   -- a turn that visits the next candidate
   module _ {here : Level B T} {rs : List (WorkRow B T)} {best : Option T} {setting : List Pair} {v : ℕ} (h : Holds loaded a cs allowance old here rs best setting v) (p : Pair) (more : here.tried < length (row_of cs rs)) (at : get_or (row_of cs rs) here.tried p ≡ p) where
-    st : Stands loaded a cs allowance old here rs best setting v
-    st = h.stands
-
-    -- the selection that is visited
-    abbrev pub visit : List Pair
-    visit = base rs ++ p ∷ []
-
     row_is : drop here.tried (row_of cs rs) ≡ p ∷ drop (here.tried + 1) (row_of cs rs)
     row_is = drop_more (row_of cs rs) here.tried p more ∙ ap (λ x. x ∷ drop (here.tried + 1) (row_of cs rs)) at
 
@@ -218,13 +208,14 @@ module _ {B T : Type 0} (loaded : List Pair → B) (a : Aim T) (cs : List (List 
     p_lawful = (subst (λ c. AllByRecursion Lawful c) row_is (all_drop Lawful here.tried (row_of cs rs) (lawful_at cs (length rs) lawful.lawful))).0
 
     visit_lawful : AllByRecursion Lawful (base rs ++ p ∷ [])
-    visit_lawful = all_append Lawful (base rs) (p ∷ []) h.stands.frame.lawful (p_lawful, tt)
+    visit_lawful = all_append Lawful (base rs) (p ∷ []) h.stands.reached.lawful (p_lawful, tt)
 
+    -- it is a selection
     pub visit_selection : Selection (base rs ++ p ∷ [])
     visit_selection =
         let f = lawful.few in
         let deep = h.stands.deep in
-        selection_append (base rs) (p ∷ []) h.stands.frame.lawful (p_lawful, tt) (omega (arith, base_length rs))
+        selection_append (base rs) (p ∷ []) h.stands.reached.lawful (p_lawful, tt) (omega (arith, base_length rs))
 
     -- the selections below it
     abbrev sub : List (List Pair)
@@ -233,11 +224,13 @@ module _ {B T : Type 0} (loaded : List Pair → B) (a : Aim T) (cs : List (List 
     abbrev rest : List (List Pair)
     rest = level_left cs (tried_one here) rs ++ rows_left cs rs
 
+    -- it is visited
     visit_seen : seen a h.stands.found (base rs ++ p ∷ []) ≡ true
     visit_seen =
         ap (λ z. a.within z && not (beats a h.stands.found z)) (parent_push (base rs) p)
-        ∙ and_from (a.within (base rs)) (not (beats a h.stands.found (base rs))) h.stands.frame.within (not_from_false (beats a h.stands.found (base rs)) (h.unbeaten more))
+        ∙ and_from (a.within (base rs)) (not (beats a h.stands.found (base rs))) h.stands.reached.within (not_from_false (beats a h.stands.found (base rs)) (h.unbeaten more))
 
+    -- what is left begins with it
     visit_owes : Owes a cs h.stands.found v ((base rs ++ p ∷ []) ∷ (sub ++ rest))
     visit_owes =
         let left = level_left cs (tried_one here) rs in
@@ -255,17 +248,19 @@ module _ {B T : Type 0} (loaded : List Pair → B) (a : Aim T) (cs : List (List 
         let less : allowance < visits a cs = omega (arith, owes_more a cs h.stands.found v (base rs ++ p ∷ []) (sub ++ rest) visit_seen visit_owes, seens_all a laws.ranks cs some lawful) in
         sym (cond-true (ltb allowance (visits a cs)) Spent (told_of a (visits a cs) (named a cs)) (lt-ltb allowance (visits a cs) less))
 
+    -- and so the visits are not within the allowance
     pub spent_below : v ≡ allowance → leb (visits a cs) allowance ≡ false
     spent_below e =
         let deep = h.stands.deep in
         let some : 0 < length cs = omega arith in
         lt-leb (visits a cs) allowance (omega (arith, owes_more a cs h.stands.found v (base rs ++ p ∷ []) (sub ++ rest) visit_seen visit_owes, seens_all a laws.ranks cs some lawful))
 
+    -- what is left after it
     next_owes : Owes a cs (next a cs h.stands.found (base rs ++ p ∷ [])) (v + 1) (sub ++ rest)
     next_owes = owes_visit a cs h.stands.found v (base rs ++ p ∷ []) (sub ++ rest) visit_seen visit_owes
 
-    tried_frame : Frame loaded a (base rs) (tried_one here)
-    tried_frame = record { load = h.stands.frame.load; total = h.stands.frame.total; within = h.stands.frame.within; lawful = h.stands.frame.lawful }
+    tried_reached : Reached loaded a (base rs) (tried_one here)
+    tried_reached = record { load = h.stands.reached.load; total = h.stands.reached.total; within = h.stands.reached.within; lawful = h.stands.reached.lawful }
 
     module _ (unspent : v ≡ allowance → ⊥) where
       spare_one : v + 1 ≤ allowance
@@ -283,8 +278,8 @@ module _ {B T : Type 0} (loaded : List Pair → B) (a : Aim T) (cs : List (List 
             stands = record {
               deep = deep;
               room = h.stands.room;
-              frame = tried_frame;
-              frames = h.stands.frames;
+              reached = tried_reached;
+              above = h.stands.above;
               spare = spare_one;
               found = b;
               best_is = h.stands.best_is;
@@ -310,8 +305,8 @@ module _ {B T : Type 0} (loaded : List Pair → B) (a : Aim T) (cs : List (List 
             record {
               deep = deep;
               room = omega (arith, ap length new_is, length-append q (drop (suc (length rs)) setting), length-drop (suc (length rs)) setting, visit_length);
-              frame = tried_frame;
-              frames = h.stands.frames;
+              reached = tried_reached;
+              above = h.stands.above;
               spare = spare_one;
               found = Some q;
               best_is = ap (λ x. Some x) t_is;
@@ -340,8 +335,8 @@ module _ {B T : Type 0} (loaded : List Pair → B) (a : Aim T) (cs : List (List 
               stands = record {
                 deep = not_last;
                 room = h.stands.room;
-                frame = record { load = load ∙ ap loaded (sym base_is); total = total ∙ ap a.total (sym base_is); within = ap a.within base_is ∙ within; lawful = subst (λ x. AllByRecursion Lawful x) (sym base_is) visit_lawful };
-                frames = (subst (λ x. Frame loaded a (base rs) x) (sym r_level) tried_frame, h.stands.frames);
+                reached = record { load = load ∙ ap loaded (sym base_is); total = total ∙ ap a.total (sym base_is); within = ap a.within base_is ∙ within; lawful = subst (λ x. AllByRecursion Lawful x) (sym base_is) visit_lawful };
+                above = (subst (λ x. Reached loaded a (base rs) x) (sym r_level) tried_reached, h.stands.above);
                 spare = spare_one;
                 found = b;
                 best_is = h.stands.best_is;
@@ -354,9 +349,11 @@ module _ {B T : Type 0} (loaded : List Pair → B) (a : Aim T) (cs : List (List 
 
 -- how many turns may be left falls at each turn
 module _ {B T : Type 0} (cs : List (List Pair)) where
+  -- by leaving a row
   pub leave_less : (here : Level B T) (r : WorkRow B T) (rs : List (WorkRow B T)) → turns cs r.level rs < turns cs here (r ∷ rs)
   leave_less here r rs = omega (arith, row_turns_pos (suc (all_turns (below_of cs (r ∷ rs)))) (drop here.tried (row_of cs (r ∷ rs))))
 
+  -- closing a level takes none more
   pub close_no_more : (k : Bool) (count : ℕ) (level : Level B T) (rs : List (WorkRow B T)) → length (row_of cs rs) ≤ count → turns cs (closed k count level) rs ≤ turns cs level rs
   close_no_more false count level rs h = omega arith
   close_no_more true count level rs h =
@@ -371,9 +368,11 @@ module _ {B T : Type 0} (cs : List (List Pair)) where
         let was : row_turns each (drop here.tried (row_of cs rs)) ≡ each + row_turns each (drop (here.tried + 1) (row_of cs rs)) = ap (row_turns each) (drop_more (row_of cs rs) here.tried p more) in
         omega arith
 
+    -- by trying a candidate
     pub tried_less : turns cs (tried_one here) rs < turns cs here rs
     tried_less = omega (arith, turns_was)
 
+    -- by going on to the next link
     pub deeper_less : suc (length rs) < length cs → (r : WorkRow B T) → r.level ≡ tried_one here → (fresh : Level B T) → fresh.tried ≡ 0 → turns cs fresh (r ∷ rs) < turns cs here rs
     deeper_less not_last r r_level fresh fresh_tried =
         let below : all_turns (below_of cs rs) ≡ all_turns (get_or cs (suc (length rs)) [] ∷ drop (suc (suc (length rs))) cs) = ap all_turns (drop-cons cs (suc (length rs)) [] not_last) in

@@ -16,10 +16,11 @@ use Rattle.planner.specs.Outcome.{outcome, placed}
 use Rattle.planner.specs.Table.{LawfulCandidates}
 use Rattle.planner.specs.Work.{held}
 use Rattle.planner.proofs.Fold.{beats}
-use Rattle.planner.proofs.Left.{Laws}
+use Rattle.planner.proofs.Laws.{Laws}
 use Rattle.planner.proofs.Stack.{stack, stack_length, stack_push, stack_pop, base, base_reverse, held_set, held_at, row_of, turns}
-use Rattle.planner.proofs.Turns.{tried_one, Frame, Holds, beaten, beaten_is, closed, close, leave, end_told, end_placed, start, visit_selection, spent, spent_below, passed, kept, deeper, leave_less, close_no_more, tried_less, deeper_less}
+use Rattle.planner.proofs.Turns.{tried_one, Reached, Holds, beaten, beaten_is, closed, close, leave, end_told, end_placed, start, visit_selection, spent, spent_below, passed, kept, deeper, leave_less, close_no_more, tried_less, deeper_less}
 
+-- a place without element is past the end
 past : {X : Type 0} (xs : List X) (i : ℕ) → slice_get xs i ≡ None → length xs ≤ i
 past xs i e = elim (slice_get_cases xs i).1 [ inl h ↦ absurd (none-some h.0 (sym e ∙ h.2)) | inr h ↦ h.0 ]
 
@@ -47,14 +48,14 @@ begin {B} {T} {loaded} {a} {cs} laws lawful links allowance old work some long s
     record { deep = some; long = long; same = same; holds = start loaded a cs laws lawful allowance old here (omega arith) (omega arith) (ap (λ l. l.load) here_is ∙ load_is) (ap (λ l. l.total) here_is ∙ total_is) (ap (λ l. l.tried) here_is) within }
 
 -- a turn at which the candidates of the link are used up
-pub record Leaves {B T : Type 0} (loaded : List Pair → B) (a : Aim T) (links : ℕ) (cs : List (List Pair)) (allowance : ℕ) (old : List Pair) (here : Level B T) (depth : ℕ) (work : List (WorkRow B T)) (best : Option T) (setting : List Pair) (v : ℕ) : Type 0 where
+pub record UsedUp {B T : Type 0} (loaded : List Pair → B) (a : Aim T) (links : ℕ) (cs : List (List Pair)) (allowance : ℕ) (old : List Pair) (here : Level B T) (depth : ℕ) (work : List (WorkRow B T)) (best : Option T) (setting : List Pair) (v : ℕ) : Type 0 where
   pub laws : Laws a
   pub lawful : LawfulCandidates cs
   pub walks : Walks loaded a links cs allowance old here depth work best setting v
   pub used : length (row_of cs (stack work depth)) ≤ here.tried
 
 -- a turn at which p is the next candidate
-pub record Visits {B T : Type 0} (loaded : List Pair → B) (a : Aim T) (links : ℕ) (cs : List (List Pair)) (allowance : ℕ) (old : List Pair) (here : Level B T) (depth : ℕ) (work : List (WorkRow B T)) (best : Option T) (setting : List Pair) (v : ℕ) (p : Pair) : Type 0 where
+pub record HasNext {B T : Type 0} (loaded : List Pair → B) (a : Aim T) (links : ℕ) (cs : List (List Pair)) (allowance : ℕ) (old : List Pair) (here : Level B T) (depth : ℕ) (work : List (WorkRow B T)) (best : Option T) (setting : List Pair) (v : ℕ) (p : Pair) : Type 0 where
   pub laws : Laws a
   pub lawful : LawfulCandidates cs
   pub walks : Walks loaded a links cs allowance old here depth work best setting v
@@ -66,16 +67,18 @@ module _ {B T : Type 0} {loaded : List Pair → B} {a : Aim T} {links : ℕ} {cs
   row_is : row_of cs (stack work depth) ≡ (get_or work depth row).candidates.items
   row_is = row_at links cs work depth w.long w.same w.deep row
 
-  pub leaves : next ≡ None → Leaves loaded a links cs allowance old here depth work best setting v
-  leaves none = record {
+  -- the row has no candidate at that place
+  pub used_up_at : next ≡ None → UsedUp loaded a links cs allowance old here depth work best setting v
+  used_up_at none = record {
     laws = laws;
     lawful = lawful;
     walks = w;
     used = omega (arith, ap length row_is, past (get_or work depth row).candidates.items here.tried (sym read ∙ none));
   }
 
-  pub visits_next : (p : Pair) → next ≡ Some p → Visits loaded a links cs allowance old here depth work best setting v p
-  visits_next p some = record {
+  -- the row has p there
+  pub next_at : (p : Pair) → next ≡ Some p → HasNext loaded a links cs allowance old here depth work best setting v p
+  next_at p some = record {
     laws = laws;
     lawful = lawful;
     walks = w;
@@ -86,7 +89,7 @@ module _ {B T : Type 0} {loaded : List Pair → B} {a : Aim T} {links : ℕ} {cs
 height : {B T : Type 0} (links depth : ℕ) (work : List (WorkRow B T)) → depth < links → links ≤ length work → length (stack work depth) ≡ depth
 height links depth work deep long = stack_length work depth (omega arith)
 
-module _ {B T : Type 0} {loaded : List Pair → B} {a : Aim T} {links : ℕ} {cs : List (List Pair)} {allowance : ℕ} {old : List Pair} {here : Level B T} {depth : ℕ} {work : List (WorkRow B T)} {best : Option T} {setting : List Pair} {v : ℕ} (t : Leaves loaded a links cs allowance old here depth work best setting v) where
+module _ {B T : Type 0} {loaded : List Pair → B} {a : Aim T} {links : ℕ} {cs : List (List Pair)} {allowance : ℕ} {old : List Pair} {here : Level B T} {depth : ℕ} {work : List (WorkRow B T)} {best : Option T} {setting : List Pair} {v : ℕ} (t : UsedUp loaded a links cs allowance old here depth work best setting v) where
   -- at the first link: the search is over
   module _ (first : depth ≡ 0) where
     at_first : Holds loaded a cs allowance old here [] best setting v
@@ -95,9 +98,11 @@ module _ {B T : Type 0} {loaded : List Pair → B} {a : Aim T} {links : ℕ} {cs
     used_first : length (get_or cs 0 []) ≤ here.tried
     used_first = subst (λ d. length (row_of cs (stack work d)) ≤ here.tried) first t.used
 
+    -- what is told is the outcome
     pub over_told : (told : Outcome T) → told ≡ option_map_or (λ total. Found total v) best (NoneWithin v) → told ≡ outcome a cs allowance
     over_told told told_is = told_is ∙ end_told loaded a cs t.laws t.lawful allowance old at_first used_first
 
+    -- and the places hold the named setting
     pub over_placed : setting ≡ placed (named a cs) old
     over_placed = end_placed loaded a cs t.laws t.lawful allowance old at_first used_first
 
@@ -121,6 +126,7 @@ module _ {B T : Type 0} {loaded : List Pair → B} {a : Aim T} {links : ℕ} {cs
     used_here : length (row_of cs ((get_or work (depth - 1) row_back) ∷ stack work (depth - 1))) ≤ here.tried
     used_here = subst (λ rs. length (row_of cs rs) ≤ here.tried) popped t.used
 
+    -- the search stands at the link before
     pub back_walks : Walks loaded a links cs allowance old (closed (beaten a best (get_or work (depth - 1) row_back).level.total) count (get_or work (depth - 1) row_back).level) (depth - 1) work best setting v
     back_walks =
         let deep = t.walks.deep in
@@ -131,38 +137,46 @@ module _ {B T : Type 0} {loaded : List Pair → B} {a : Aim T} {links : ℕ} {cs
           holds = close loaded a cs t.laws t.lawful allowance old (leave loaded a cs t.laws t.lawful allowance old left_here used_here) count back_row;
         }
 
+    -- with fewer turns left
     pub back_less : turns cs (closed (beaten a best (get_or work (depth - 1) row_back).level.total) count (get_or work (depth - 1) row_back).level) (stack work (depth - 1)) < turns cs here (stack work depth)
     back_less =
         let less : turns cs (get_or work (depth - 1) row_back).level (stack work (depth - 1)) < turns cs here ((get_or work (depth - 1) row_back) ∷ stack work (depth - 1)) = leave_less cs here (get_or work (depth - 1) row_back) (stack work (depth - 1)) in
         let same : turns cs here (stack work depth) ≡ turns cs here ((get_or work (depth - 1) row_back) ∷ stack work (depth - 1)) = ap (turns cs here) popped in
         omega (arith, close_no_more cs (beaten a best (get_or work (depth - 1) row_back).level.total) count (get_or work (depth - 1) row_back).level (stack work (depth - 1)) back_row)
 
-module _ {B T : Type 0} {loaded : List Pair → B} {a : Aim T} {links : ℕ} {cs : List (List Pair)} {allowance : ℕ} {old : List Pair} {here : Level B T} {depth : ℕ} {work : List (WorkRow B T)} {best : Option T} {setting : List Pair} {v : ℕ} {p : Pair} (t : Visits loaded a links cs allowance old here depth work best setting v p) where
+module _ {B T : Type 0} {loaded : List Pair → B} {a : Aim T} {links : ℕ} {cs : List (List Pair)} {allowance : ℕ} {old : List Pair} {here : Level B T} {depth : ℕ} {work : List (WorkRow B T)} {best : Option T} {setting : List Pair} {v : ℕ} {p : Pair} (t : HasNext loaded a links cs allowance old here depth work best setting v p) where
+  -- the selection with p
   pub taken : Selection (base (stack work depth) ++ p ∷ [])
   taken = visit_selection loaded a cs t.laws t.lawful allowance old t.walks.holds p t.more t.at
 
-  here_is : Frame loaded a (base (stack work depth)) here
-  here_is = t.walks.holds.stands.frame
+  here_is : Reached loaded a (base (stack work depth)) here
+  here_is = t.walks.holds.stands.reached
 
   -- what is kept of the selection that is visited
   pub load_of : (load : B) → Takes loaded here.load p load → load ≡ loaded (base (stack work depth) ++ p ∷ [])
   load_of load takes = takes (base (stack work depth)) here_is.load taken
 
+  -- its total
   pub total_of : (total : T) → Takes a.total here.total p total → total ≡ a.total (base (stack work depth) ++ p ∷ [])
   total_of total takes = takes (base (stack work depth)) here_is.total taken
 
+  -- the load may take p
   pub may_take_load : MayTake loaded here.load p
   may_take_load = (base (stack work depth), here_is.load, taken)
 
+  -- the total may take p
   pub may_take_total : MayTake a.total here.total p
   may_take_total = (base (stack work depth), here_is.total, taken)
 
+  -- where the allowance is used up, the search is spent
   pub spent_told : v ≡ allowance → Spent ≡ outcome a cs allowance
   spent_told = spent loaded a cs t.laws t.lawful allowance old t.walks.holds p t.more t.at
 
+  -- and no setting is asked for
   pub spent_placed : v ≡ allowance → leb (visits a cs) allowance ≡ true → setting ≡ placed (named a cs) old
   spent_placed e enough = absurd (both_ways (leb (visits a cs) allowance) (spent_below loaded a cs t.laws t.lawful allowance old t.walks.holds p t.more t.at e) enough)
 
+  -- with fewer turns left
   pub tried_turns : turns cs (tried_one here) (stack work depth) < turns cs here (stack work depth)
   tried_turns = tried_less cs here (stack work depth) p t.more
 
@@ -196,6 +210,7 @@ module _ {B T : Type 0} {loaded : List Pair → B} {a : Aim T} {links : ℕ} {cs
           few : length (row_of cs (stack work depth)) ≤ count
           few = omega (arith, ap length (row_at links cs work depth t.walks.long t.walks.same t.walks.deep again))
 
+          -- the search stands at the same link
           pub best_walks : Walks loaded a links cs allowance old (closed (beaten a (Some total) here.total) count (tried_one here)) depth work (Some total) new (v + 1)
           best_walks =
               let deep = t.walks.deep in
@@ -207,6 +222,7 @@ module _ {B T : Type 0} {loaded : List Pair → B} {a : Aim T} {links : ℕ} {cs
                 holds = close loaded a cs t.laws t.lawful allowance old (kept loaded a cs t.laws t.lawful allowance old t.walks.holds p t.more t.at unspent within ahead end total total_is new new_setting) count few;
               }
 
+          -- with fewer turns left
           pub best_less : turns cs (closed (beaten a (Some total) here.total) count (tried_one here)) (stack work depth) < turns cs here (stack work depth)
           best_less = omega (arith, tried_turns, close_no_more cs (beaten a (Some total) here.total) count (tried_one here) (stack work depth) few)
 
@@ -221,6 +237,7 @@ module _ {B T : Type 0} {loaded : List Pair → B} {a : Aim T} {links : ℕ} {cs
           pushed : stack (set work depth new) (depth + 1) ≡ new ∷ stack work depth
           pushed = stack_push work depth new inside
 
+          -- the search stands at the next link
           pub next_walks : Walks loaded a links cs allowance old fresh (depth + 1) (set work depth new) best setting (v + 1)
           next_walks =
               let on : suc (length (stack work depth)) < length cs = omega (arith, height links depth work t.walks.deep t.walks.long, count_links links cs work t.walks.long t.walks.same) in
@@ -235,6 +252,7 @@ module _ {B T : Type 0} {loaded : List Pair → B} {a : Aim T} {links : ℕ} {cs
               kept_row : (get_or work depth again).candidates.items ≡ (get_or work depth new).candidates.items
               kept_row = ap (λ r. r.candidates.items) (get_or_default work depth again new inside)
 
+          -- with fewer turns left
           pub next_less : turns cs fresh (stack (set work depth new) (depth + 1)) < turns cs here (stack work depth)
           next_less =
               let on : suc (length (stack work depth)) < length cs = omega (arith, height links depth work t.walks.deep t.walks.long, count_links links cs work t.walks.long t.walks.same) in

@@ -19,13 +19,13 @@ abbrev pub no_more : {T : Type 0} → Aim T → List Pair → List Pair → Bool
 no_more a s t = a.at_most (a.total s) (a.total t)
 
 -- the complete selections that are within the limit
-abbrev pub settings : {T : Type 0} → Aim T → List (List Pair) → List (List Pair)
-settings a cs = filter a.within (complete cs)
+abbrev pub admitted : {T : Type 0} → Aim T → List (List Pair) → List (List Pair)
+admitted a cs = filter a.within (complete cs)
 
 -- a partial selection is visited when its parent is within the limit, and no complete selection that is within and comes
 -- before it totals no more than the parent
 abbrev pub visited : {T : Type 0} → Aim T → List (List Pair) → List Pair → Bool
-visited a cs p = a.within (parent p) && not (list_any (λ s. before s p && no_more a s (parent p)) (settings a cs))
+visited a cs p = a.within (parent p) && not (list_any (λ s. before s p && no_more a s (parent p)) (admitted a cs))
 
 -- the visits: how many partial selections are visited
 abbrev pub visits : {T : Type 0} → Aim T → List (List Pair) → ℕ
@@ -33,7 +33,7 @@ visits a cs = count_by (visited a cs) (partial cs)
 
 -- of the complete selections within the limit, those that total no more than any other
 abbrev pub least : {T : Type 0} → Aim T → List (List Pair) → List (List Pair)
-least a cs = filter (λ s. list_all (no_more a s) (settings a cs)) (settings a cs)
+least a cs = filter (λ s. list_all (no_more a s) (admitted a cs)) (admitted a cs)
 
 -- of some selections, the one that none of them comes before
 abbrev pub first : List (List Pair) → Option (List Pair)

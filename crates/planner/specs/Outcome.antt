@@ -14,7 +14,7 @@ told_of a count (Some s) = Found (a.total s) count
 abbrev pub outcome : {T : Type 0} → Aim T → List (List Pair) → ℕ → Outcome T
 outcome a cs allowance = if nat_lt allowance (visits a cs) then Spent else told_of a (visits a cs) (named a cs)
 
--- a setting in its place: the first places hold its pairs, and those past them what they held
+-- a setting in its place: the first places hold its pairs, and those past them what they held; without one, all what they held
 abbrev pub placed : Option (List Pair) → List Pair → List Pair
 placed None old = old
 placed (Some s) old = s ++ drop (length s) old

@@ -17,7 +17,8 @@ partial (c ∷ cs) = flat_map (λ p. (p ∷ []) ∷ map (λ s. p ∷ s) (partial
 abbrev pub parent : List Pair → List Pair
 parent s = take (length s - 1) s
 
--- at the first link where the two differ, the first selection has the smaller gap
+-- at the first link where their gaps differ, the first selection has the smaller one (candidates of one link that differ have
+-- different gaps)
 abbrev pub before : List Pair → List Pair → Bool
 before [] t = false
 before (p ∷ s) [] = false

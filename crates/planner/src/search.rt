@@ -13,6 +13,8 @@ use crate::work_table::{lay_out, write_setting};
 use limits::{GAP_COUNT, Limit, Measure, Pair};
 
 /// Searches the candidates of all links for the first setting within the limit that the measure totals least.
+/// It is spent where the visits are more than the allowance. Otherwise the setting, if there is one, is written into the first
+/// places, and those past the links stay. The work table may hold anything, before and after.
 pub(crate) fn search<L: Limit, M: Measure>(
     table: &[[Option<Pair>; GAP_COUNT]],
     limit: &L,
@@ -22,7 +24,7 @@ pub(crate) fn search<L: Limit, M: Measure>(
     setting: &mut [Pair],
 ) -> Outcome<M::Total>
     requires lawful { LawfulCandidates (candidates_of table.now) }
-    requires rows { length table.now < length work.now }
+    requires rows { length table.now ≤ length work.now }
     requires places { length table.now ≤ length setting.now }
     ensures told { result ≡ outcome (aim_of (L.breach limit.now) (M.totalled measure.now) (M.atmost measure.now)) (candidates_of table.now) allowance }
     ensures setting { nat_le (visits (aim_of (L.breach limit.now) (M.totalled measure.now) (M.atmost measure.now)) (candidates_of table.now)) allowance ≡ true
@@ -85,7 +87,7 @@ fn walk<L: Limit, M: Measure>(
             continue;
         }
         let total = measure.total_with(here.total, pair);
-        // what goes on from it totals no less than the best
+        // nothing that goes on from it totals less than the best
         if is_beaten(measure, best, total) {
             continue;
         }

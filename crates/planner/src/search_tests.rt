@@ -1,5 +1,5 @@
 //! Worked searches, by reserve and by burst: what they tell, and what they leave in the places of the setting.
-ghost use Rattle.std.specs.Prelude.{◌≡◌, ◌≤◌, ◌<◌, Some, length};
+ghost use Rattle.std.specs.Prelude.{◌≡◌, ◌≤◌, ◌<◌, true, Some, length};
 ghost use Rattle.std.proofs.Common.{rules};
 ghost use Rattle.planner.specs.Table.{candidates_of, LawfulCandidates};
 
@@ -37,6 +37,34 @@ impl Limit for Never {
 
     fn breach_of(&self, _load: ()) -> u32 {
         7
+    }
+}
+
+/// A measure by which every selection costs the same, so that the first setting ends the search.
+#[derive(Clone, Copy)]
+struct Free;
+
+impl Measure for Free {
+    type Total = ();
+
+    ghost totalled = { λ m s. tt };
+
+    ghost atmost = { λ m x y. true };
+
+    ghost either = { Prim.search rules };
+
+    ghost chained = { Prim.search rules };
+
+    ghost beginning = { Prim.search rules };
+
+    ghost lowered = { Prim.search rules };
+
+    fn empty_total(&self) {}
+
+    fn total_with(&self, _total: (), _pair: Pair) {}
+
+    fn no_more(&self, _x: (), _y: ()) -> bool {
+        true
     }
 }
 
@@ -157,14 +185,14 @@ fn searched<L: Limit, M: Measure>(
 ) -> (Outcome<M::Total>, [Pair; 3])
     requires lawful { LawfulCandidates (candidates_of table.now) }
     requires few { length table.now ≤ 3 }
-    requires rows { length table.now < length work.now }
+    requires rows { length table.now ≤ length work.now }
 {
     let mut setting = [BEFORE; 3];
     let told = search(table, limit, measure, allowance, work, &mut setting);
     (told, setting)
 }
 
-/// A search by reserve at a port, told and left by the second of two with one work table.
+/// A search by reserve at a port: what the second of two with one work table tells and leaves.
 fn by_reserve(table: &[Places], port: Port, allowance: u32) -> (Outcome<u32>, [Pair; 3])
     requires lawful { LawfulCandidates (candidates_of table.now) }
     requires few { length table.now ≤ 3 }
@@ -300,6 +328,27 @@ fn of_equal_totals_the_first(rt: HostRuntime) -> Result<(), Fail> {
         assert_eq!(rt;
             by_reserve(&links, Port::new(100_000, 100_000, floor)?, 2),
             (told, [first, BEFORE, BEFORE]),
+            "from {floor}"
+        );
+    }
+    Ok(())
+}
+
+#[test]
+fn nothing_is_tried_that_cannot_cost_less(rt: HostRuntime) -> Result<(), Fail> {
+    let links = two_links();
+    for (floor, visits, first, second) in [
+        (1, 2, pair(1, 5), pair(1, 7)),
+        (2, 4, pair(2, 9), pair(2, 13)),
+    ] {
+        let limit = Port::new(10_000, 10_000, floor)?.limit();
+        let mut work: [Row<()>; 3] = array::from_fn(|_| blank(limit.empty_load(), ()));
+        assert_eq!(rt;
+            searched(&links, &limit, &Free, visits, &mut work),
+            (
+                Outcome::Found { total: (), visits },
+                [first, second, BEFORE]
+            ),
             "from {floor}"
         );
     }

@@ -12,7 +12,7 @@ pub(crate) struct Level<B, T> {
 }
 
 impl<B: Copy, T: Copy> Level<B, T> {
-    /// A link of which no candidate was tried.
+    /// Where no candidate of the link was tried.
     pub(crate) fn fresh(load: B, total: T) -> Level<B, T>
         ensures { result ≡ record { load = load; total = total; tried = 0 } }
     {
@@ -40,7 +40,7 @@ impl<B: Copy, T: Copy> WorkRow<B, T> {
         self.candidates.len()
     }
 
-    /// The candidate at that place, if there are so many.
+    /// The candidate at that place, counted from 0; none past the last.
     pub(crate) fn candidate(&self, place: usize) -> Option<Pair>
         ensures value { result ≡ slice_get self.now.candidates.items place }
         ensures bound { OnSome result (place < 8) }

@@ -6,8 +6,7 @@ use Rattle.planner.specs.Named.{aim_of}
 use Rattle.planner.specs.Table.{candidates_of, LawfulCandidates}
 use Rattle.planner.proofs.Edges.{outside_told, outside_placed}
 use Rattle.planner.proofs.Exchanged.{least_of_all}
-use Rattle.planner.proofs.Laws.{laws_of}
-use Rattle.planner.proofs.Left.{Laws}
+use Rattle.planner.proofs.Laws.{Laws, laws_of}
 use Rattle.planner.proofs.search.search.Given as given
 use Rattle.planner.proofs.search.search.Goals as goal
 

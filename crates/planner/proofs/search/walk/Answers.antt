@@ -3,10 +3,9 @@ use Rattle.std.proofs.lemmas.Bool.{eq-eqb, ne_eqb}
 use borrow.Author.Rules.{scaled_Fits}
 use Rattle.planner.specs.Named.{aim_of}
 use Rattle.planner.specs.Work.{held}
-use Rattle.planner.proofs.Laws.{laws_of}
-use Rattle.planner.proofs.Left.{Laws}
+use Rattle.planner.proofs.Laws.{Laws, laws_of}
 use Rattle.planner.proofs.Stack.{stack, base}
-use Rattle.planner.proofs.Walk.{Leaves, Visits, begin, leaves, visits_next, over_told, over_placed, back_walks, back_less, taken, load_of, total_of, may_take_load, may_take_total, spent_told, spent_placed, tried_turns, outside_walks, beaten_walks, best_walks, best_less, next_walks, next_less}
+use Rattle.planner.proofs.Walk.{UsedUp, HasNext, begin, used_up_at, next_at, over_told, over_placed, back_walks, back_less, taken, load_of, total_of, may_take_load, may_take_total, spent_told, spent_placed, tried_turns, outside_walks, beaten_walks, best_walks, best_less, next_walks, next_less}
 use Rattle.planner.proofs.search.walk.Given as given
 use Rattle.planner.proofs.search.walk.Goals as goal
 use Rattle.planner.proofs.search.walk.Goals.{In_default, In-Some}
@@ -18,12 +17,12 @@ laws g limit measure =
     laws_of (g.L.Limit.breach limit) (g.M.Measure.totalled measure) (g.M.Measure.atmost measure) (l.beginning limit) (l.lowered limit) (m.either measure) (m.chained measure) (m.beginning measure) (m.lowered measure)
 
 -- the turn, where the candidates of the link are used up
-leaves_at : (g : given.Over) (c : In_default g) → Leaves (g.L.Limit.loaded c.args.limit.now) (aim_of (g.L.Limit.breach c.args.limit.now) (g.M.Measure.totalled c.args.measure.now) (g.M.Measure.atmost c.args.measure.now)) c.args.links (held c.args.links c.args.work.now) c.args.allowance c.args.setting.now c.loop-pair.here c.loop-pair.depth c.loop-pair.work c.loop-pair.best c.loop-pair.setting c.loop-pair.visits
-leaves_at g c = leaves (laws g c.args.limit.now c.args.measure.now) c.requires.lawful c.loop-pair.invariant c.index-work-depth.result c.candidate.result c.candidate.ensures.value c.in_default.is
+used_up_here : (g : given.Over) (c : In_default g) → UsedUp (g.L.Limit.loaded c.args.limit.now) (aim_of (g.L.Limit.breach c.args.limit.now) (g.M.Measure.totalled c.args.measure.now) (g.M.Measure.atmost c.args.measure.now)) c.args.links (held c.args.links c.args.work.now) c.args.allowance c.args.setting.now c.loop-pair.here c.loop-pair.depth c.loop-pair.work c.loop-pair.best c.loop-pair.setting c.loop-pair.visits
+used_up_here g c = used_up_at (laws g c.args.limit.now c.args.measure.now) c.requires.lawful c.loop-pair.invariant c.index-work-depth.result c.candidate.result c.candidate.ensures.value c.in_default.is
 
 -- the turn, where there is a next one
-visits_at : (g : given.Over) (c : In-Some g) → Visits (g.L.Limit.loaded c.args.limit.now) (aim_of (g.L.Limit.breach c.args.limit.now) (g.M.Measure.totalled c.args.measure.now) (g.M.Measure.atmost c.args.measure.now)) c.args.links (held c.args.links c.args.work.now) c.args.allowance c.args.setting.now c.loop-pair.here c.loop-pair.depth c.loop-pair.work c.loop-pair.best c.loop-pair.setting c.loop-pair.visits c.in-Some.pair
-visits_at g c = visits_next (laws g c.args.limit.now c.args.measure.now) c.requires.lawful c.loop-pair.invariant c.index-work-depth.result c.candidate.result c.candidate.ensures.value c.in-Some.pair c.in-Some.is
+next_here : (g : given.Over) (c : In-Some g) → HasNext (g.L.Limit.loaded c.args.limit.now) (aim_of (g.L.Limit.breach c.args.limit.now) (g.M.Measure.totalled c.args.measure.now) (g.M.Measure.atmost c.args.measure.now)) c.args.links (held c.args.links c.args.work.now) c.args.allowance c.args.setting.now c.loop-pair.here c.loop-pair.depth c.loop-pair.work c.loop-pair.best c.loop-pair.setting c.loop-pair.visits c.in-Some.pair
+next_here g c = next_at (laws g c.args.limit.now c.args.measure.now) c.requires.lawful c.loop-pair.invariant c.index-work-depth.result c.candidate.result c.candidate.ensures.value c.in-Some.pair c.in-Some.is
 
 pub loop-pair-init : goal.loop-pair-init
 loop-pair-init g c =
@@ -31,54 +30,54 @@ loop-pair-init g c =
 
 pub returns-then-depth-eq0-clause-told : goal.returns-then-depth-eq0-clause-told
 returns-then-depth-eq0-clause-told g c =
-    let t = leaves_at g (goal.at.returns-then-depth-eq0-clause-told g c).In_default in
+    let t = used_up_here g (goal.at.returns-then-depth-eq0-clause-told g c).In_default in
     over_told t c.if-depth-eq0.true c.ended.result c.ended.ensures
 
 pub returns-then-depth-eq0-clause-setting : goal.returns-then-depth-eq0-clause-setting
 returns-then-depth-eq0-clause-setting g c =
-    let t = leaves_at g (goal.at.returns-then-depth-eq0-clause-setting g c).In_default in
+    let t = used_up_here g (goal.at.returns-then-depth-eq0-clause-setting g c).In_default in
     λ _. over_placed t c.if-depth-eq0.true
 
 pub loop-pair-preserved-in_default : goal.loop-pair-preserved-in_default
 loop-pair-preserved-in_default g c =
-    let t = leaves_at g (goal.at.loop-pair-preserved-in_default g c).In_default in
+    let t = used_up_here g (goal.at.loop-pair-preserved-in_default g c).In_default in
     rw c.pruned-here.ensures (back_walks t c.if-depth-eq0.false c.index-work-depth-in_default.result c.count.result c.count.ensures)
 
 pub loop-pair-smaller-in_default : goal.loop-pair-smaller-in_default
 loop-pair-smaller-in_default g c =
-    let t = leaves_at g (goal.at.loop-pair-smaller-in_default g c).In_default in
+    let t = used_up_here g (goal.at.loop-pair-smaller-in_default g c).In_default in
     rw c.pruned-here.ensures (back_less t c.if-depth-eq0.false c.index-work-depth-in_default.result c.count.result c.count.ensures)
 
 pub returns-then-visits-allowance-clause-told : goal.returns-then-visits-allowance-clause-told
 returns-then-visits-allowance-clause-told g c =
-    let t = visits_at g (goal.at.returns-then-visits-allowance-clause-told g c).In-Some in
+    let t = next_here g (goal.at.returns-then-visits-allowance-clause-told g c).In-Some in
     spent_told t c.if-visits-allowance.true
 
 pub returns-then-visits-allowance-clause-setting : goal.returns-then-visits-allowance-clause-setting
 returns-then-visits-allowance-clause-setting g c =
-    let t = visits_at g (goal.at.returns-then-visits-allowance-clause-setting g c).In-Some in
+    let t = next_here g (goal.at.returns-then-visits-allowance-clause-setting g c).In-Some in
     spent_placed t c.if-visits-allowance.true
 
 pub load_with-load-requires : goal.load_with-load-requires
 load_with-load-requires g c =
-    let t = visits_at g (goal.at.load_with-load-requires g c).In-Some in
+    let t = next_here g (goal.at.load_with-load-requires g c).In-Some in
     may_take_load t
 
 pub total_with-total-requires : goal.total_with-total-requires
 total_with-total-requires g c =
-    let t = visits_at g (goal.at.total_with-total-requires g c).In-Some in
+    let t = next_here g (goal.at.total_with-total-requires g c).In-Some in
     may_take_total t
 
 pub breach_of-requires : goal.breach_of-requires
 breach_of-requires g c =
-    let t = visits_at g (goal.at.breach_of-requires g c).In-Some in
+    let t = next_here g (goal.at.breach_of-requires g c).In-Some in
     let q = base (stack c.loop-pair.work c.loop-pair.depth) ++ c.in-Some.pair ∷ [] in
     let load = load_of t c.load_with-load.result c.load_with-load.ensures in
     (q, load, taken t)
 
 pub loop-pair-preserved-then-breach_of-ne0 : goal.loop-pair-preserved-then-breach_of-ne0
 loop-pair-preserved-then-breach_of-ne0 g c =
-    let t = visits_at g (goal.at.loop-pair-preserved-then-breach_of-ne0 g c).In-Some in
+    let t = next_here g (goal.at.loop-pair-preserved-then-breach_of-ne0 g c).In-Some in
     let q = base (stack c.loop-pair.work c.loop-pair.depth) ++ c.in-Some.pair ∷ [] in
     let load = load_of t c.load_with-load.result c.load_with-load.ensures in
     let breach = c.breach_of.ensures q load (taken t) in
@@ -86,23 +85,23 @@ loop-pair-preserved-then-breach_of-ne0 g c =
 
 pub loop-pair-smaller-then-breach_of-ne0 : goal.loop-pair-smaller-then-breach_of-ne0
 loop-pair-smaller-then-breach_of-ne0 g c =
-    let t = visits_at g (goal.at.loop-pair-smaller-then-breach_of-ne0 g c).In-Some in
+    let t = next_here g (goal.at.loop-pair-smaller-then-breach_of-ne0 g c).In-Some in
     tried_turns t
 
 pub loop-pair-preserved-then-is_beaten : goal.loop-pair-preserved-then-is_beaten
 loop-pair-preserved-then-is_beaten g c =
-    let t = visits_at g (goal.at.loop-pair-preserved-then-is_beaten g c).In-Some in
+    let t = next_here g (goal.at.loop-pair-preserved-then-is_beaten g c).In-Some in
     let total = total_of t c.total_with-total.result c.total_with-total.ensures in
     beaten_walks t c.if-visits-allowance.false c.total_with-total.result total c.is_beaten.result c.is_beaten.ensures c.if-is_beaten.true
 
 pub loop-pair-smaller-then-is_beaten : goal.loop-pair-smaller-then-is_beaten
 loop-pair-smaller-then-is_beaten g c =
-    let t = visits_at g (goal.at.loop-pair-smaller-then-is_beaten g c).In-Some in
+    let t = next_here g (goal.at.loop-pair-smaller-then-is_beaten g c).In-Some in
     tried_turns t
 
 pub loop-pair-preserved-then-depth-links : goal.loop-pair-preserved-then-depth-links
 loop-pair-preserved-then-depth-links g c =
-    let t = visits_at g (goal.at.loop-pair-preserved-then-depth-links g c).In-Some in
+    let t = next_here g (goal.at.loop-pair-preserved-then-depth-links g c).In-Some in
     let q = base (stack c.loop-pair.work c.loop-pair.depth) ++ c.in-Some.pair ∷ [] in
     let load = load_of t c.load_with-load.result c.load_with-load.ensures in
     let breach = c.breach_of.ensures q load (taken t) in
@@ -112,7 +111,7 @@ loop-pair-preserved-then-depth-links g c =
 
 pub loop-pair-smaller-then-depth-links : goal.loop-pair-smaller-then-depth-links
 loop-pair-smaller-then-depth-links g c =
-    let t = visits_at g (goal.at.loop-pair-smaller-then-depth-links g c).In-Some in
+    let t = next_here g (goal.at.loop-pair-smaller-then-depth-links g c).In-Some in
     let q = base (stack c.loop-pair.work c.loop-pair.depth) ++ c.in-Some.pair ∷ [] in
     let load = load_of t c.load_with-load.result c.load_with-load.ensures in
     let breach = c.breach_of.ensures q load (taken t) in
@@ -122,7 +121,7 @@ loop-pair-smaller-then-depth-links g c =
 
 pub loop-pair-preserved : goal.loop-pair-preserved
 loop-pair-preserved g c =
-    let t = visits_at g (goal.at.loop-pair-preserved g c).In-Some in
+    let t = next_here g (goal.at.loop-pair-preserved g c).In-Some in
     let q = base (stack c.loop-pair.work c.loop-pair.depth) ++ c.in-Some.pair ∷ [] in
     let load = load_of t c.load_with-load.result c.load_with-load.ensures in
     let breach = c.breach_of.ensures q load (taken t) in
@@ -132,7 +131,7 @@ loop-pair-preserved g c =
 
 pub loop-pair-smaller : goal.loop-pair-smaller
 loop-pair-smaller g c =
-    let t = visits_at g (goal.at.loop-pair-smaller g c).In-Some in
+    let t = next_here g (goal.at.loop-pair-smaller g c).In-Some in
     let q = base (stack c.loop-pair.work c.loop-pair.depth) ++ c.in-Some.pair ∷ [] in
     let load = load_of t c.load_with-load.result c.load_with-load.ensures in
     let breach = c.breach_of.ensures q load (taken t) in
