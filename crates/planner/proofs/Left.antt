@@ -74,6 +74,10 @@ module _ {T : Type 0} (a : Aim T) (cs : List (List Pair)) where
   pub owes_skip : (b : Option (List Pair)) (v : ℕ) (ps qs : List (List Pair)) → AllByRecursion (Idle b) ps → Owes b v (ps ++ qs) → Owes b v qs
   owes_skip b v ps qs i o = record { count = ap (λ k. v + k) (sym (skip_count b ps qs i)) ∙ o.count; ends = sym (skip_ends b ps qs i) ∙ o.ends }
 
+  -- and back before it
+  pub owes_back : (b : Option (List Pair)) (v : ℕ) (ps qs : List (List Pair)) → AllByRecursion (Idle b) ps → Owes b v qs → Owes b v (ps ++ qs)
+  owes_back b v ps qs i o = record { count = ap (λ k. v + k) (skip_count b ps qs i) ∙ o.count; ends = skip_ends b ps qs i ∙ o.ends }
+
   -- past one that is visited
   pub owes_visit : (b : Option (List Pair)) (v : ℕ) (p : List Pair) (ps : List (List Pair)) → seen a b p ≡ true → Owes b v (p ∷ ps) → Owes (next a cs b p) (v + 1) ps
   owes_visit b v p ps s o =

@@ -1,6 +1,6 @@
 -- The rows of the work table above the link that is tried, and what is left at each.
-use Rattle.std.proofs.Common.{◌≡◌, ℕ, suc, ◌+◌, ◌<◌, ◌≤◌, List, [], ◌∷◌, ◌++◌, map, reverse, length, get_or, take, drop, set, refl, sym, ap, ◌∙◌, append_assoc, arith}
-use Rattle.std.proofs.lemmas.List.{reverse-append, length-reverse, length-take-le, take_more, take_more_set, take-map, map-set, set-get_or, get_or-map, get_or-take, drop_more, set_at, map_more, length-map}
+use Rattle.std.proofs.Common.{◌≡◌, ℕ, zero, suc, ◌+◌, ◌<◌, ◌≤◌, List, [], ◌∷◌, ◌++◌, map, reverse, length, get_or, take, drop, set, refl, sym, ap, ◌∙◌, append_assoc, arith}
+use Rattle.std.proofs.lemmas.List.{reverse-append, length-reverse, length-take-le, take_more, take_more_set, take-map, map-set, set-get_or, get_or-map, get_or-take, drop_more, set_at, map_more, length-map, drop-drop}
 use Rattle.limits.specs.declared.pair.Pair.{Pair}
 use Rattle.planner.specs.declared.work_row.Level.{Level}
 use Rattle.planner.specs.declared.work_row.WorkRow.{WorkRow}
@@ -106,6 +106,15 @@ all_turns (c ∷ cs) = row_turns (suc (all_turns cs)) c
 pub row_turns_pos : (each : ℕ) (c : List Pair) → 0 < row_turns each c
 row_turns_pos each [] = omega arith
 row_turns_pos each (p ∷ c) = omega (arith, row_turns_pos each c)
+
+-- fewer candidates take no more turns
+pub row_turns_drop : (each n k : ℕ) (c : List Pair) → row_turns each (drop (n + k) c) ≤ row_turns each (drop n c)
+row_turns_drop each n k c = omega (arith, ap (row_turns each) (drop-drop k n c), fewer (drop n c) k)
+  where
+    fewer : (d : List Pair) (m : ℕ) → row_turns each (drop m d) ≤ row_turns each d
+    fewer d zero = omega arith
+    fewer [] (suc m) = omega arith
+    fewer (p ∷ d) (suc m) = omega (arith, fewer d m)
 
 module _ {B T : Type 0} (cs : List (List Pair)) where
   -- of the link that is tried

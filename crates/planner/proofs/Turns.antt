@@ -1,5 +1,5 @@
 -- What each turn of the search does to what is left.
-use Rattle.std.proofs.Common.{◌≡◌, ℕ, zero, suc, ◌+◌, ◌<◌, ◌≤◌, Bool, true, false, not, ◌&&◌, if◌then◌else◌, ltb, leb, List, [], ◌∷◌, ◌++◌, map, length, get_or, drop, Some, None, Option, option_map, refl, sym, ap, ap₂, ◌∙◌, subst, subst₂, ◌⊎◌, inr, length-append, length-drop, append-nil, append_assoc, map-id, drop-cons, drop_at, arith}
+use Rattle.std.proofs.Common.{◌≡◌, ℕ, zero, suc, ◌+◌, ◌-◌, ◌<◌, ◌≤◌, Bool, true, false, not, ◌&&◌, if◌then◌else◌, ltb, leb, List, [], ◌∷◌, ◌++◌, map, length, get_or, drop, Some, None, Option, option_map, refl, sym, ap, ap₂, ◌∙◌, subst, subst₂, ◌⊎◌, inr, length-append, length-drop, append-nil, append_assoc, map-id, drop-cons, drop_at, arith}
 use Rattle.std.specs.List.{AllByRecursion}
 use Rattle.std.specs.Option.{option_map_or, IfSome}
 use Rattle.std.proofs.lemmas.Bool.{and_from, and_left, not_from_false, cond-true, cond-false, lt-ltb, lt-leb}
@@ -17,11 +17,11 @@ use Rattle.planner.specs.Table.{LawfulCandidates}
 use Rattle.planner.proofs.Chosen.{final_named}
 use Rattle.planner.proofs.Fold.{beats, next, seen, seens_all}
 use Rattle.planner.proofs.Laws.{Laws}
-use Rattle.planner.proofs.Left.{selection_append, parent_push, Owes, owes_whole, owes_skip, owes_visit, owes_more, Idle, Lost, lost_next, idle_all, nodes, nodes_cons}
+use Rattle.planner.proofs.Left.{selection_append, parent_push, Owes, owes_whole, owes_skip, owes_back, owes_visit, owes_more, Idle, Lost, lost_next, idle_all, nodes, nodes_cons}
 use Rattle.planner.proofs.Members.{all_append, all_drop}
 use Rattle.planner.proofs.Order.{full, full_long, full_short}
 use Rattle.planner.proofs.Told.{told_unspent}
-use Rattle.planner.proofs.Stack.{base, row_of, below_of, level_left, rows_left, row_turns, all_turns, row_turns_pos, level_turns, turns}
+use Rattle.planner.proofs.Stack.{base, row_of, below_of, level_left, rows_left, row_turns, all_turns, row_turns_pos, row_turns_drop, level_turns, turns}
 
 -- the candidates of each link are lawful
 lawful_at : (cs : List (List Pair)) (k : ℕ) → AllByRecursion (λ c. AllByRecursion Lawful c) cs → AllByRecursion Lawful (get_or cs k [])
@@ -39,6 +39,7 @@ pub record Reached {B T : Type 0} (loaded : List Pair → B) (a : Aim T) (s : Li
   pub total : level.total ≡ a.total s
   pub within : a.within s ≡ true
   pub lawful : AllByRecursion Lawful s
+  pub few : level.tried ≤ 8
 
 -- so is each row above
 abbrev AllReached : {B T : Type 0} → (List Pair → B) → Aim T → List (WorkRow B T) → Type 0
@@ -61,7 +62,7 @@ pub record Stands {B T : Type 0} (loaded : List Pair → B) (a : Aim T) (cs : Li
 -- the same, with a level that the best so far does not close
 pub record Holds {B T : Type 0} (loaded : List Pair → B) (a : Aim T) (cs : List (List Pair)) (allowance : ℕ) (old : List Pair) (here : Level B T) (rs : List (WorkRow B T)) (best : Option T) (setting : List Pair) (v : ℕ) : Type 0 where
   pub stands : Stands loaded a cs allowance old here rs best setting v
-  pub unbeaten : here.tried < length (row_of cs rs) → beats a stands.found (base rs) ≡ false
+  pub unbeaten : here.tried < 8 → beats a stands.found (base rs) ≡ false
 
 -- whether the best total so far is no more than this one
 abbrev pub beaten : {T : Type 0} → Aim T → Option T → T → Bool
@@ -73,8 +74,8 @@ beaten_is a None best total s b t = ap (λ o. beaten a o total) b
 beaten_is a (Some x) best total s b t = ap₂ (λ o y. beaten a o y) b t
 
 -- the level as the search goes on with it
-abbrev pub closed : {B T : Type 0} → Bool → ℕ → Level B T → Level B T
-closed k count level = if k then record { load = level.load; total = level.total; tried = count } else level
+abbrev pub closed : {B T : Type 0} → Bool → Level B T → Level B T
+closed k level = if k then record { load = level.load; total = level.total; tried = 8 } else level
 
 module _ {B T : Type 0} (loaded : List Pair → B) (a : Aim T) (cs : List (List Pair)) (laws : Laws a) (lawful : LawfulCandidates cs) (allowance : ℕ) (old : List Pair) where
   -- a row whose candidates are used up has nothing left
@@ -94,31 +95,31 @@ module _ {B T : Type 0} (loaded : List Pair → B) (a : Aim T) (cs : List (List 
   base_length (r ∷ rs) = omega (arith, length-append (base rs) (r.pair ∷ []), base_length rs)
 
   module _ {here : Level B T} {rs : List (WorkRow B T)} {best : Option T} {setting : List Pair} {v : ℕ} where
-    close_by : (st : Stands loaded a cs allowance old here rs best setting v) (count : ℕ) → length (row_of cs rs) ≤ count → (k : Bool) → k ≡ beats a st.found (base rs) → Holds loaded a cs allowance old (closed k count here) rs best setting v
-    close_by st count h false e = record { stands = st; unbeaten = λ _. sym e }
-    close_by st count h true e =
-        let shut : Level B T = record { load = here.load; total = here.total; tried = count } in
-        let idle = level_idle st.found here rs st.reached.lawful (base_length rs) st.deep (inr (sym e)) in
-        let left : Owes a cs st.found v (rows_left cs rs) = owes_skip a cs st.found v (level_left cs here rs) (rows_left cs rs) idle st.owes in
+    close_by : (st : Stands loaded a cs allowance old here rs best setting v) (k : Bool) → k ≡ beats a st.found (base rs) → Holds loaded a cs allowance old (closed k here) rs best setting v
+    close_by st false e = record { stands = st; unbeaten = λ _. sym e }
+    close_by st true e =
+        let shut : Level B T = record { load = here.load; total = here.total; tried = 8 } in
+        let idle = λ (level : Level B T). level_idle st.found level rs st.reached.lawful (base_length rs) st.deep (inr (sym e)) in
+        let left : Owes a cs st.found v (rows_left cs rs) = owes_skip a cs st.found v (level_left cs here rs) (rows_left cs rs) (idle here) st.owes in
         record {
           stands = record {
             deep = st.deep;
             room = st.room;
-            reached = record { load = st.reached.load; total = st.reached.total; within = st.reached.within; lawful = st.reached.lawful };
+            reached = record { load = st.reached.load; total = st.reached.total; within = st.reached.within; lawful = st.reached.lawful; few = omega arith };
             above = st.above;
             spare = st.spare;
             found = st.found;
             best_is = st.best_is;
             setting_is = st.setting_is;
             whole = st.whole;
-            owes = subst (λ ps. Owes a cs st.found v (ps ++ rows_left cs rs)) (sym (used_up shut rs h)) left;
+            owes = owes_back a cs st.found v (level_left cs shut rs) (rows_left cs rs) (idle shut) left;
           };
           unbeaten = λ l. absurd (omega arith);
         }
 
     -- a level is closed where the best so far is no more
-    pub close : Stands loaded a cs allowance old here rs best setting v → (count : ℕ) → length (row_of cs rs) ≤ count → Holds loaded a cs allowance old (closed (beaten a best here.total) count here) rs best setting v
-    close st count h = close_by st count h (beaten a best here.total) (beaten_is a st.found best here.total (base rs) st.best_is st.reached.total)
+    pub close : Stands loaded a cs allowance old here rs best setting v → Holds loaded a cs allowance old (closed (beaten a best here.total) here) rs best setting v
+    close st = close_by st (beaten a best here.total) (beaten_is a st.found best here.total (base rs) st.best_is st.reached.total)
 
     -- a row is left for the one above it
     pub leave : {r : WorkRow B T} → Holds loaded a cs allowance old here (r ∷ rs) best setting v → length (row_of cs (r ∷ rs)) ≤ here.tried → Stands loaded a cs allowance old r.level rs best setting v
@@ -177,7 +178,7 @@ module _ {B T : Type 0} (loaded : List Pair → B) (a : Aim T) (cs : List (List 
         stands = record {
           deep = some;
           room = room;
-          reached = record { load = load; total = total; within = within; lawful = tt };
+          reached = record { load = load; total = total; within = within; lawful = tt; few = omega arith };
           above = tt;
           spare = omega arith;
           found = None;
@@ -197,7 +198,7 @@ module _ {B T : Type 0} (loaded : List Pair → B) (a : Aim T) (cs : List (List 
       all_left ds l = ap (λ n. map (λ y. [] ++ y) (partial (drop n (get_or ds 0 []) ∷ drop 1 ds)) ++ []) fresh ∙ from_first ds l
 
   -- a turn that visits the next candidate
-  module _ {here : Level B T} {rs : List (WorkRow B T)} {best : Option T} {setting : List Pair} {v : ℕ} (h : Holds loaded a cs allowance old here rs best setting v) (p : Pair) (more : here.tried < length (row_of cs rs)) (at : get_or (row_of cs rs) here.tried p ≡ p) where
+  module _ {here : Level B T} {rs : List (WorkRow B T)} {best : Option T} {setting : List Pair} {v : ℕ} (h : Holds loaded a cs allowance old here rs best setting v) (p : Pair) (inside : here.tried < 8) (more : here.tried < length (row_of cs rs)) (at : get_or (row_of cs rs) here.tried p ≡ p) where
     row_is : drop here.tried (row_of cs rs) ≡ p ∷ drop (here.tried + 1) (row_of cs rs)
     row_is = drop_more (row_of cs rs) here.tried p more ∙ ap (λ x. x ∷ drop (here.tried + 1) (row_of cs rs)) at
 
@@ -228,7 +229,7 @@ module _ {B T : Type 0} (loaded : List Pair → B) (a : Aim T) (cs : List (List 
     visit_seen : seen a h.stands.found (base rs ++ p ∷ []) ≡ true
     visit_seen =
         ap (λ z. a.within z && not (beats a h.stands.found z)) (parent_push (base rs) p)
-        ∙ and_from (a.within (base rs)) (not (beats a h.stands.found (base rs))) h.stands.reached.within (not_from_false (beats a h.stands.found (base rs)) (h.unbeaten more))
+        ∙ and_from (a.within (base rs)) (not (beats a h.stands.found (base rs))) h.stands.reached.within (not_from_false (beats a h.stands.found (base rs)) (h.unbeaten inside))
 
     -- what is left begins with it
     visit_owes : Owes a cs h.stands.found v ((base rs ++ p ∷ []) ∷ (sub ++ rest))
@@ -260,7 +261,7 @@ module _ {B T : Type 0} (loaded : List Pair → B) (a : Aim T) (cs : List (List 
     next_owes = owes_visit a cs h.stands.found v (base rs ++ p ∷ []) (sub ++ rest) visit_seen visit_owes
 
     tried_reached : Reached loaded a (base rs) (tried_one here)
-    tried_reached = record { load = h.stands.reached.load; total = h.stands.reached.total; within = h.stands.reached.within; lawful = h.stands.reached.lawful }
+    tried_reached = record { load = h.stands.reached.load; total = h.stands.reached.total; within = h.stands.reached.within; lawful = h.stands.reached.lawful; few = omega arith }
 
     module _ (unspent : v ≡ allowance → ⊥) where
       spare_one : v + 1 ≤ allowance
@@ -287,7 +288,7 @@ module _ {B T : Type 0} (loaded : List Pair → B) (a : Aim T) (cs : List (List 
               whole = h.stands.whole;
               owes = owes_skip a cs b (v + 1) sub rest idle stays;
             };
-            unbeaten = λ l. h.unbeaten more;
+            unbeaten = λ l. h.unbeaten inside;
           }
 
       module _ (within : a.within (base rs ++ p ∷ []) ≡ true) (unbeaten : beats a h.stands.found (base rs ++ p ∷ []) ≡ false) where
@@ -335,7 +336,7 @@ module _ {B T : Type 0} (loaded : List Pair → B) (a : Aim T) (cs : List (List 
               stands = record {
                 deep = not_last;
                 room = h.stands.room;
-                reached = record { load = load ∙ ap loaded (sym base_is); total = total ∙ ap a.total (sym base_is); within = ap a.within base_is ∙ within; lawful = subst (λ x. AllByRecursion Lawful x) (sym base_is) visit_lawful };
+                reached = record { load = load ∙ ap loaded (sym base_is); total = total ∙ ap a.total (sym base_is); within = ap a.within base_is ∙ within; lawful = subst (λ x. AllByRecursion Lawful x) (sym base_is) visit_lawful; few = omega arith };
                 above = (subst (λ x. Reached loaded a (base rs) x) (sym r_level) tried_reached, h.stands.above);
                 spare = spare_one;
                 found = b;
@@ -354,12 +355,14 @@ module _ {B T : Type 0} (cs : List (List Pair)) where
   leave_less here r rs = omega (arith, row_turns_pos (suc (all_turns (below_of cs (r ∷ rs)))) (drop here.tried (row_of cs (r ∷ rs))))
 
   -- closing a level takes none more
-  pub close_no_more : (k : Bool) (count : ℕ) (level : Level B T) (rs : List (WorkRow B T)) → length (row_of cs rs) ≤ count → turns cs (closed k count level) rs ≤ turns cs level rs
-  close_no_more false count level rs h = omega arith
-  close_no_more true count level rs h =
+  pub close_no_more : (k : Bool) (level : Level B T) (rs : List (WorkRow B T)) → level.tried ≤ 8 → turns cs (closed k level) rs ≤ turns cs level rs
+  close_no_more false level rs h = omega arith
+  close_no_more true level rs h =
       let each = suc (all_turns (below_of cs rs)) in
-      let none : row_turns each (drop count (row_of cs rs)) ≡ 1 = ap (row_turns each) (drop_all count (row_of cs rs) h) in
-      omega (arith, row_turns_pos each (drop level.tried (row_of cs rs)))
+      let row = row_of cs rs in
+      let all : level.tried + (8 - level.tried) ≡ 8 = omega arith in
+      let same : row_turns each (drop (level.tried + (8 - level.tried)) row) ≡ row_turns each (drop 8 row) = ap (λ n. row_turns each (drop n row)) all in
+      omega (arith, row_turns_drop each level.tried (8 - level.tried) row)
 
   module _ (here : Level B T) (rs : List (WorkRow B T)) (p : Pair) (more : here.tried < length (row_of cs rs)) where
     turns_was : turns cs here rs ≡ suc (all_turns (below_of cs rs)) + turns cs (tried_one here) rs

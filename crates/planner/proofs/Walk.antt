@@ -1,6 +1,6 @@
 -- The turns of the search, as the work table holds them.
 use Rattle.std.proofs.Common.{◌≡◌, Bool, ℕ, suc, ◌+◌, ◌-◌, ◌<◌, ◌≤◌, true, false, leb, List, [], ◌∷◌, ◌++◌, map, length, get_or, take, drop, set, slice_get, Some, None, Option, sym, ap, ap₂, ◌∙◌, subst, inl, inr, length-set, arith}
-use Rattle.std.specs.Option.{option_map_or}
+use Rattle.std.specs.Option.{option_map_or, OnSome}
 use Rattle.std.proofs.lemmas.Bool.{both_ways}
 use Rattle.std.proofs.lemmas.List.{length-map, length-take-le, get_or_default}
 use Rattle.std.proofs.lemmas.Option.{none-some, slice_get_cases, slice_get_within, get_or_from_slice_get}
@@ -18,7 +18,7 @@ use Rattle.planner.specs.Work.{held}
 use Rattle.planner.proofs.Fold.{beats}
 use Rattle.planner.proofs.Laws.{Laws}
 use Rattle.planner.proofs.Stack.{stack, stack_length, stack_push, stack_pop, base, base_reverse, held_set, held_at, row_of, turns}
-use Rattle.planner.proofs.Turns.{tried_one, Reached, Holds, beaten, beaten_is, closed, close, leave, end_told, end_placed, start, visit_selection, spent, spent_below, passed, kept, deeper, leave_less, close_no_more, tried_less, deeper_less}
+use Rattle.planner.proofs.Turns.{tried_one, Reached, Stands, Holds, beaten, beaten_is, closed, close, leave, end_told, end_placed, start, visit_selection, spent, spent_below, passed, kept, deeper, leave_less, close_no_more, tried_less, deeper_less}
 
 -- a place without element is past the end
 past : {X : Type 0} (xs : List X) (i : ℕ) → slice_get xs i ≡ None → length xs ≤ i
@@ -59,6 +59,7 @@ pub record HasNext {B T : Type 0} (loaded : List Pair → B) (a : Aim T) (links 
   pub laws : Laws a
   pub lawful : LawfulCandidates cs
   pub walks : Walks loaded a links cs allowance old here depth work best setting v
+  pub inside : here.tried < 8
   pub more : here.tried < length (row_of cs (stack work depth))
   pub at : get_or (row_of cs (stack work depth)) here.tried p ≡ p
 
@@ -77,11 +78,12 @@ module _ {B T : Type 0} {loaded : List Pair → B} {a : Aim T} {links : ℕ} {cs
   }
 
   -- the row has p there
-  pub next_at : (p : Pair) → next ≡ Some p → HasNext loaded a links cs allowance old here depth work best setting v p
-  next_at p some = record {
+  pub next_at : OnSome next (here.tried < 8) → (p : Pair) → next ≡ Some p → HasNext loaded a links cs allowance old here depth work best setting v p
+  next_at bound p some = record {
     laws = laws;
     lawful = lawful;
     walks = w;
+    inside = subst (λ o. OnSome o (here.tried < 8)) some bound;
     more = omega (arith, ap length row_is, slice_get_within (get_or work depth row).candidates.items here.tried p (sym read ∙ some));
     at = ap (λ c. get_or c here.tried p) row_is ∙ get_or_from_slice_get (get_or work depth row).candidates.items here.tried p p (sym read ∙ some);
   }
@@ -107,7 +109,7 @@ module _ {B T : Type 0} {loaded : List Pair → B} {a : Aim T} {links : ℕ} {cs
     over_placed = end_placed loaded a cs t.laws t.lawful allowance old at_first used_first
 
   -- at another link: the search goes back to the link before
-  module _ (other : depth ≡ 0 → ⊥) (row_back : WorkRow B T) (count : ℕ) (count_is : count ≡ length (get_or work (depth - 1) row_back).candidates.items) where
+  module _ (other : depth ≡ 0 → ⊥) (row_back : WorkRow B T) where
     popped : stack work depth ≡ get_or work (depth - 1) row_back ∷ stack work (depth - 1)
     popped =
         let deep = t.walks.deep in
@@ -115,39 +117,37 @@ module _ {B T : Type 0} {loaded : List Pair → B} {a : Aim T} {links : ℕ} {cs
         let up : depth ≡ (depth - 1) + 1 = omega arith in
         ap (stack work) up ∙ stack_pop work (depth - 1) row_back (omega arith)
 
-    back_row : length (row_of cs (stack work (depth - 1))) ≤ count
-    back_row =
-        let deep = t.walks.deep in
-        omega (arith, ap length (row_at links cs work (depth - 1) t.walks.long t.walks.same (omega arith) row_back))
-
     left_here : Holds loaded a cs allowance old here ((get_or work (depth - 1) row_back) ∷ stack work (depth - 1)) best setting v
     left_here = subst (λ rs. Holds loaded a cs allowance old here rs best setting v) popped t.walks.holds
 
     used_here : length (row_of cs ((get_or work (depth - 1) row_back) ∷ stack work (depth - 1))) ≤ here.tried
     used_here = subst (λ rs. length (row_of cs rs) ≤ here.tried) popped t.used
 
+    at_back : Stands loaded a cs allowance old (get_or work (depth - 1) row_back).level (stack work (depth - 1)) best setting v
+    at_back = leave loaded a cs t.laws t.lawful allowance old left_here used_here
+
     -- the search stands at the link before
-    pub back_walks : Walks loaded a links cs allowance old (closed (beaten a best (get_or work (depth - 1) row_back).level.total) count (get_or work (depth - 1) row_back).level) (depth - 1) work best setting v
+    pub back_walks : Walks loaded a links cs allowance old (closed (beaten a best (get_or work (depth - 1) row_back).level.total) (get_or work (depth - 1) row_back).level) (depth - 1) work best setting v
     back_walks =
         let deep = t.walks.deep in
         record {
           deep = omega arith;
           long = t.walks.long;
           same = t.walks.same;
-          holds = close loaded a cs t.laws t.lawful allowance old (leave loaded a cs t.laws t.lawful allowance old left_here used_here) count back_row;
+          holds = close loaded a cs t.laws t.lawful allowance old at_back;
         }
 
     -- with fewer turns left
-    pub back_less : turns cs (closed (beaten a best (get_or work (depth - 1) row_back).level.total) count (get_or work (depth - 1) row_back).level) (stack work (depth - 1)) < turns cs here (stack work depth)
+    pub back_less : turns cs (closed (beaten a best (get_or work (depth - 1) row_back).level.total) (get_or work (depth - 1) row_back).level) (stack work (depth - 1)) < turns cs here (stack work depth)
     back_less =
         let less : turns cs (get_or work (depth - 1) row_back).level (stack work (depth - 1)) < turns cs here ((get_or work (depth - 1) row_back) ∷ stack work (depth - 1)) = leave_less cs here (get_or work (depth - 1) row_back) (stack work (depth - 1)) in
         let same : turns cs here (stack work depth) ≡ turns cs here ((get_or work (depth - 1) row_back) ∷ stack work (depth - 1)) = ap (turns cs here) popped in
-        omega (arith, close_no_more cs (beaten a best (get_or work (depth - 1) row_back).level.total) count (get_or work (depth - 1) row_back).level (stack work (depth - 1)) back_row)
+        omega (arith, close_no_more cs (beaten a best (get_or work (depth - 1) row_back).level.total) (get_or work (depth - 1) row_back).level (stack work (depth - 1)) at_back.reached.few)
 
 module _ {B T : Type 0} {loaded : List Pair → B} {a : Aim T} {links : ℕ} {cs : List (List Pair)} {allowance : ℕ} {old : List Pair} {here : Level B T} {depth : ℕ} {work : List (WorkRow B T)} {best : Option T} {setting : List Pair} {v : ℕ} {p : Pair} (t : HasNext loaded a links cs allowance old here depth work best setting v p) where
   -- the selection with p
   pub taken : Selection (base (stack work depth) ++ p ∷ [])
-  taken = visit_selection loaded a cs t.laws t.lawful allowance old t.walks.holds p t.more t.at
+  taken = visit_selection loaded a cs t.laws t.lawful allowance old t.walks.holds p t.inside t.more t.at
 
   here_is : Reached loaded a (base (stack work depth)) here
   here_is = t.walks.holds.stands.reached
@@ -170,11 +170,11 @@ module _ {B T : Type 0} {loaded : List Pair → B} {a : Aim T} {links : ℕ} {cs
 
   -- where the allowance is used up, the search is spent
   pub spent_told : v ≡ allowance → Spent ≡ outcome a cs allowance
-  spent_told = spent loaded a cs t.laws t.lawful allowance old t.walks.holds p t.more t.at
+  spent_told = spent loaded a cs t.laws t.lawful allowance old t.walks.holds p t.inside t.more t.at
 
   -- and no setting is asked for
   pub spent_placed : v ≡ allowance → leb (visits a cs) allowance ≡ true → setting ≡ placed (named a cs) old
-  spent_placed e enough = absurd (both_ways (leb (visits a cs) allowance) (spent_below loaded a cs t.laws t.lawful allowance old t.walks.holds p t.more t.at e) enough)
+  spent_placed e enough = absurd (both_ways (leb (visits a cs) allowance) (spent_below loaded a cs t.laws t.lawful allowance old t.walks.holds p t.inside t.more t.at e) enough)
 
   -- with fewer turns left
   pub tried_turns : turns cs (tried_one here) (stack work depth) < turns cs here (stack work depth)
@@ -186,7 +186,7 @@ module _ {B T : Type 0} {loaded : List Pair → B} {a : Aim T} {links : ℕ} {cs
 
     -- the selection with it is not within
     pub outside_walks : a.within (base (stack work depth) ++ p ∷ []) ≡ false → Walks loaded a links cs allowance old (tried_one here) depth work best setting (v + 1)
-    outside_walks e = with_tried (passed loaded a cs t.laws t.lawful allowance old t.walks.holds p t.more t.at unspent (inl e))
+    outside_walks e = with_tried (passed loaded a cs t.laws t.lawful allowance old t.walks.holds p t.inside t.more t.at unspent (inl e))
 
     module _ (total : T) (total_is : total ≡ a.total (base (stack work depth) ++ p ∷ [])) (verdict : Bool) (verdict_is : verdict ≡ beaten a best total) where
       beats_is : verdict ≡ beats a t.walks.holds.stands.found (base (stack work depth) ++ p ∷ [])
@@ -194,24 +194,21 @@ module _ {B T : Type 0} {loaded : List Pair → B} {a : Aim T} {links : ℕ} {cs
 
       -- the best so far totals no t.more
       pub beaten_walks : verdict ≡ true → Walks loaded a links cs allowance old (tried_one here) depth work best setting (v + 1)
-      beaten_walks e = with_tried (passed loaded a cs t.laws t.lawful allowance old t.walks.holds p t.more t.at unspent (inr (sym beats_is ∙ e)))
+      beaten_walks e = with_tried (passed loaded a cs t.laws t.lawful allowance old t.walks.holds p t.inside t.more t.at unspent (inr (sym beats_is ∙ e)))
 
       module _ (within : a.within (base (stack work depth) ++ p ∷ []) ≡ true) (unbeaten : verdict ≡ false) where
         ahead : beats a t.walks.holds.stands.found (base (stack work depth) ++ p ∷ []) ≡ false
         ahead = sym beats_is ∙ unbeaten
 
         -- at the last link it is the best so far
-        module _ (last : links ≤ depth + 1) (new : List Pair) (new_is : new ≡ (map (λ r. r.pair) (take depth work) ++ p ∷ []) ++ drop (depth + 1) setting) (again : WorkRow B T) (count : ℕ) (count_is : count ≡ length (get_or work depth again).candidates.items) where
+        module _ (last : links ≤ depth + 1) (new : List Pair) (new_is : new ≡ (map (λ r. r.pair) (take depth work) ++ p ∷ []) ++ drop (depth + 1) setting) where
           new_setting : new ≡ (base (stack work depth) ++ p ∷ []) ++ drop (suc (length (stack work depth))) setting
           new_setting =
               let up : depth + 1 ≡ suc (length (stack work depth)) = omega (arith, height links depth work t.walks.deep t.walks.long) in
               new_is ∙ ap₂ (λ s n. (s ++ p ∷ []) ++ drop n setting) (sym (base_reverse (take depth work))) up
 
-          few : length (row_of cs (stack work depth)) ≤ count
-          few = omega (arith, ap length (row_at links cs work depth t.walks.long t.walks.same t.walks.deep again))
-
           -- the search stands at the same link
-          pub best_walks : Walks loaded a links cs allowance old (closed (beaten a (Some total) here.total) count (tried_one here)) depth work (Some total) new (v + 1)
+          pub best_walks : Walks loaded a links cs allowance old (closed (beaten a (Some total) here.total) (tried_one here)) depth work (Some total) new (v + 1)
           best_walks =
               let deep = t.walks.deep in
               let end : length cs ≡ suc (length (stack work depth)) = omega (arith, height links depth work t.walks.deep t.walks.long, count_links links cs work t.walks.long t.walks.same) in
@@ -219,12 +216,12 @@ module _ {B T : Type 0} {loaded : List Pair → B} {a : Aim T} {links : ℕ} {cs
                 deep = t.walks.deep;
                 long = t.walks.long;
                 same = t.walks.same;
-                holds = close loaded a cs t.laws t.lawful allowance old (kept loaded a cs t.laws t.lawful allowance old t.walks.holds p t.more t.at unspent within ahead end total total_is new new_setting) count few;
+                holds = close loaded a cs t.laws t.lawful allowance old (kept loaded a cs t.laws t.lawful allowance old t.walks.holds p t.inside t.more t.at unspent within ahead end total total_is new new_setting);
               }
 
           -- with fewer turns left
-          pub best_less : turns cs (closed (beaten a (Some total) here.total) count (tried_one here)) (stack work depth) < turns cs here (stack work depth)
-          best_less = omega (arith, tried_turns, close_no_more cs (beaten a (Some total) here.total) count (tried_one here) (stack work depth) few)
+          pub best_less : turns cs (closed (beaten a (Some total) here.total) (tried_one here)) (stack work depth) < turns cs here (stack work depth)
+          best_less = let inside = t.inside in omega (arith, tried_turns, close_no_more cs (beaten a (Some total) here.total) (tried_one here) (stack work depth) (omega arith))
 
         -- at another link the search goes on to the next
         module _ (not_last : depth + 1 < links) (again new : WorkRow B T) (new_is : new ≡ record { candidates = (get_or work depth again).candidates; level = tried_one here; pair = p }) (fresh : Level B T) (load : B) (fresh_is : fresh ≡ record { load = load; total = total; tried = 0 }) (load_is : load ≡ loaded (base (stack work depth) ++ p ∷ [])) where
@@ -246,7 +243,7 @@ module _ {B T : Type 0} {loaded : List Pair → B} {a : Aim T} {links : ℕ} {cs
                 long = omega (arith, t.walks.long, length-set work depth new);
                 same = held_set links work depth new inside (ap (λ r. r.candidates.items) new_is ∙ kept_row) ∙ t.walks.same;
                 holds = subst (λ rs. Holds loaded a cs allowance old fresh rs best setting (v + 1)) (sym pushed)
-                    (deeper loaded a cs t.laws t.lawful allowance old t.walks.holds p t.more t.at unspent within ahead on new (ap (λ r. r.level) new_is) (ap (λ r. r.pair) new_is) fresh (ap (λ l. l.load) fresh_is ∙ load_is) (ap (λ l. l.total) fresh_is ∙ total_is) untried);
+                    (deeper loaded a cs t.laws t.lawful allowance old t.walks.holds p t.inside t.more t.at unspent within ahead on new (ap (λ r. r.level) new_is) (ap (λ r. r.pair) new_is) fresh (ap (λ l. l.load) fresh_is ∙ load_is) (ap (λ l. l.total) fresh_is ∙ total_is) untried);
               }
             where
               kept_row : (get_or work depth again).candidates.items ≡ (get_or work depth new).candidates.items

@@ -73,8 +73,7 @@ fn walk<L: Limit, M: Measure>(
                 return ended(best, visits);
             }
             depth -= 1;
-            let row = &work[depth];
-            here = pruned(measure, best, row.level, row.count());
+            here = pruned(measure, best, work[depth].level);
             continue;
         };
         if visits == allowance {
@@ -99,7 +98,7 @@ fn walk<L: Limit, M: Measure>(
         }
         best = Some(total);
         write_setting(work, depth, pair, setting);
-        here = pruned(measure, best, here, work[depth].count());
+        here = pruned(measure, best, here);
     }
 }
 
@@ -108,13 +107,12 @@ fn pruned<B: Copy, M: Measure>(
     measure: &M,
     best: Option<M::Total>,
     level: Level<B, M::Total>,
-    count: usize,
 ) -> Level<B, M::Total>
-    ensures { result ≡ if option_map_or (λ least. M.atmost measure.now least level.total) best false then record level { tried = count } else level }
+    ensures { result ≡ if option_map_or (λ least. M.atmost measure.now least level.total) best false then record level { tried = 8 } else level }
 {
     if is_beaten(measure, best, level.total) {
         return Level {
-            tried: count,
+            tried: GAP_COUNT,
             ..level
         };
     }

@@ -1,4 +1,4 @@
-ghost use Rattle.std.specs.Prelude.{◌≡◌, ◌<◌, length, slice_get, OnSome};
+ghost use Rattle.std.specs.Prelude.{◌≡◌, ◌<◌, slice_get, OnSome};
 
 use arrayvec::ArrayVec;
 use limits::{GAP_COUNT, Pair};
@@ -33,13 +33,6 @@ pub(crate) struct WorkRow<B, T> {
 }
 
 impl<B: Copy, T: Copy> WorkRow<B, T> {
-    /// How many candidates there are.
-    pub(crate) fn count(&self) -> usize
-        ensures { result ≡ length self.now.candidates.items }
-    {
-        self.candidates.len()
-    }
-
     /// The candidate at that place, counted from 0; none past the last.
     pub(crate) fn candidate(&self, place: usize) -> Option<Pair>
         ensures value { result ≡ slice_get self.now.candidates.items place }

@@ -22,7 +22,7 @@ used_up_here g c = used_up_at (laws g c.args.limit.now c.args.measure.now) c.req
 
 -- the turn, where there is a next one
 next_here : (g : given.Over) (c : In-Some g) → HasNext (g.L.Limit.loaded c.args.limit.now) (aim_of (g.L.Limit.breach c.args.limit.now) (g.M.Measure.totalled c.args.measure.now) (g.M.Measure.atmost c.args.measure.now)) c.args.links (held c.args.links c.args.work.now) c.args.allowance c.args.setting.now c.loop-pair.here c.loop-pair.depth c.loop-pair.work c.loop-pair.best c.loop-pair.setting c.loop-pair.visits c.in-Some.pair
-next_here g c = next_at (laws g c.args.limit.now c.args.measure.now) c.requires.lawful c.loop-pair.invariant c.index-work-depth.result c.candidate.result c.candidate.ensures.value c.in-Some.pair c.in-Some.is
+next_here g c = next_at (laws g c.args.limit.now c.args.measure.now) c.requires.lawful c.loop-pair.invariant c.index-work-depth.result c.candidate.result c.candidate.ensures.value c.candidate.ensures.bound c.in-Some.pair c.in-Some.is
 
 pub loop-pair-init : goal.loop-pair-init
 loop-pair-init g c =
@@ -41,12 +41,12 @@ returns-then-depth-eq0-clause-setting g c =
 pub loop-pair-preserved-in_default : goal.loop-pair-preserved-in_default
 loop-pair-preserved-in_default g c =
     let t = used_up_here g (goal.at.loop-pair-preserved-in_default g c).In_default in
-    rw c.pruned-here.ensures (back_walks t c.if-depth-eq0.false c.index-work-depth-in_default.result c.count.result c.count.ensures)
+    rw c.pruned-here.ensures (back_walks t c.if-depth-eq0.false c.index-work-depth-in_default.result)
 
 pub loop-pair-smaller-in_default : goal.loop-pair-smaller-in_default
 loop-pair-smaller-in_default g c =
     let t = used_up_here g (goal.at.loop-pair-smaller-in_default g c).In_default in
-    rw c.pruned-here.ensures (back_less t c.if-depth-eq0.false c.index-work-depth-in_default.result c.count.result c.count.ensures)
+    rw c.pruned-here.ensures (back_less t c.if-depth-eq0.false c.index-work-depth-in_default.result)
 
 pub returns-then-visits-allowance-clause-told : goal.returns-then-visits-allowance-clause-told
 returns-then-visits-allowance-clause-told g c =
@@ -127,7 +127,7 @@ loop-pair-preserved g c =
     let breach = c.breach_of.ensures q load (taken t) in
     let within = eq-eqb (g.L.Limit.breach c.args.limit.now q) 0 (sym breach ∙ c.if-breach_of-ne0.false) in
     let total = total_of t c.total_with-total.result c.total_with-total.ensures in
-    rw c.pruned-here-in-loop-pair.ensures (best_walks t c.if-visits-allowance.false c.total_with-total.result total c.is_beaten.result c.is_beaten.ensures within c.if-is_beaten.false c.if-depth-links.false c.write_setting.new.setting c.write_setting.ensures c.index-work-depth-in-loop-pair.result c.count-in-loop-pair.result c.count-in-loop-pair.ensures)
+    rw c.pruned-here-in-loop-pair.ensures (best_walks t c.if-visits-allowance.false c.total_with-total.result total c.is_beaten.result c.is_beaten.ensures within c.if-is_beaten.false c.if-depth-links.false c.write_setting.new.setting c.write_setting.ensures)
 
 pub loop-pair-smaller : goal.loop-pair-smaller
 loop-pair-smaller g c =
@@ -137,7 +137,7 @@ loop-pair-smaller g c =
     let breach = c.breach_of.ensures q load (taken t) in
     let within = eq-eqb (g.L.Limit.breach c.args.limit.now q) 0 (sym breach ∙ c.if-breach_of-ne0.false) in
     let total = total_of t c.total_with-total.result c.total_with-total.ensures in
-    rw c.pruned-here-in-loop-pair.ensures (best_less t c.if-visits-allowance.false c.total_with-total.result total c.is_beaten.result c.is_beaten.ensures within c.if-is_beaten.false c.if-depth-links.false c.write_setting.new.setting c.write_setting.ensures c.index-work-depth-in-loop-pair.result c.count-in-loop-pair.result c.count-in-loop-pair.ensures)
+    rw c.pruned-here-in-loop-pair.ensures (best_less t c.if-visits-allowance.false c.total_with-total.result total c.is_beaten.result c.is_beaten.ensures within c.if-is_beaten.false c.if-depth-links.false c.write_setting.new.setting c.write_setting.ensures)
 
 pub offset_bounds-work-depth-in_default : goal.offset_bounds-work-depth-in_default
 offset_bounds-work-depth-in_default g c =
@@ -145,10 +145,3 @@ offset_bounds-work-depth-in_default g c =
     let rows = c.requires.rows in
     let within : c.loop-pair.depth - 1 < length c.args.work.now = omega arith in
     scaled_Fits (c.loop-pair.depth - 1) (length c.args.work.now) _ within (search rules)
-
-pub offset_bounds-work-depth-in-loop-pair : goal.offset_bounds-work-depth-in-loop-pair
-offset_bounds-work-depth-in-loop-pair g c =
-    let deep = c.loop-pair.invariant.deep in
-    let rows = c.requires.rows in
-    let within : c.loop-pair.depth < length c.args.work.now = omega arith in
-    scaled_Fits c.loop-pair.depth (length c.args.work.now) _ within (search rules)
