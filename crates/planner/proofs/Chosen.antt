@@ -8,7 +8,8 @@ use Rattle.planner.specs.Named.{Aim, no_more, admitted, least, first, named}
 use Rattle.planner.specs.Selections.{before, complete, partial}
 use Rattle.planner.specs.Table.{LawfulCandidates}
 use Rattle.planner.proofs.Fold.{Ranks, reflexive, beats, next, final, hit, beats_final}
-use Rattle.planner.proofs.Members.{In, all_in, all_weaker, in_append, in_middle, in_kept, kept_in, any_in, any_none, every_from_in, every_in}
+use Rattle.std.proofs.ByRecursion.{All-weaker}
+use Rattle.planner.proofs.Members.{In, all_in, in_append, in_middle, in_kept, kept_in, any_in, any_none, every_from_in, every_in}
 use Rattle.planner.proofs.Order.{full, Ahead, before_self, partial_ordered, complete_is}
 use Rattle.planner.proofs.Pairwise.{Pairwise, pairwise_at, pairwise_kept}
 
@@ -22,7 +23,7 @@ first_is cs [] s p i whole none = absurd i
 first_is cs (t ∷ ss) s p (inr i) whole none = absurd (none t (inl refl) ((all_in (Ahead cs t) ss s p.0 i).0 (whole t (inl refl))))
 first_is cs (t ∷ ss) s p (inl e) whole none =
     let f : List Pair → Bool = λ u. before u t in
-    let ahead : list_any f (t ∷ ss) ≡ false = any_none f (t ∷ ss) (before_self t, all_weaker (Ahead cs t) (λ u. f u ≡ false) (λ u o. o.1) ss p.0) in
+    let ahead : list_any f (t ∷ ss) ≡ false = any_none f (t ∷ ss) (before_self t, All-weaker (Ahead cs t) (λ u. f u ≡ false) (λ u o. o.1) ss p.0) in
     cond-true (not (list_any f (t ∷ ss))) (Some t) (find (λ u. not (list_any (λ v. before v u) (t ∷ ss))) ss) (not_from_false (list_any f (t ∷ ss)) ahead) ∙ ap (λ u. Some u) (sym e)
 
 module _ {T : Type 0} (a : Aim T) (ranks : Ranks a.at_most) (cs : List (List Pair)) (some : 0 < length cs) (lawful : LawfulCandidates cs) where
@@ -82,7 +83,7 @@ module _ {T : Type 0} (a : Aim T) (ranks : Ranks a.at_most) (cs : List (List Pai
       let split : partial cs ≡ qs ++ s ∷ rs = q.2 in
       let ordered : Pairwise (Ahead cs) (qs ++ s ∷ rs) = rw (sym split) (partial_ordered cs lawful.rising) in
       let parts = pairwise_at (Ahead cs) qs s rs ordered in
-      let not_late : (t : List Pair) → In t (s ∷ rs) → before t s ≡ false = λ t i. all_in (λ y. before y s ≡ false) (s ∷ rs) t (before_self s, all_weaker (Ahead cs s) (λ y. before y s ≡ false) (λ y o. o.1) rs parts.1) i in
+      let not_late : (t : List Pair) → In t (s ∷ rs) → before t s ≡ false = λ t i. all_in (λ y. before y s ≡ false) (s ∷ rs) t (before_self s, All-weaker (Ahead cs s) (λ y. before y s ≡ false) (λ y o. o.1) rs parts.1) i in
       let here : In s (complete cs) = subst (λ l. In s l) (sym (complete_is cs some)) (kept_in (full cs) (partial cs) s (subst (λ l. In s l) (sym split) (in_middle qs s rs)) q.3) in (
         kept_in a.within (complete cs) s here q.4,
         λ t i. ap (λ b. beats a b t) (sym e) ∙ beats_admitted t i,

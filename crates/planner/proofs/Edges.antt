@@ -1,5 +1,5 @@
 -- The searches that end before the first turn: no selection is within the limit, or there is no link.
-use Rattle.std.proofs.Common.{◌≡◌, ℕ, ◌<◌, true, false, cond, List, [], ◌∷◌, ◌++◌, map, filter, length, Some, None, refl, sym, ap, ◌∙◌, inl, append-nil, map-id, arith}
+use Rattle.std.proofs.Common.{◌≡◌, ℕ, ◌<◌, true, false, cond, List, [], ◌∷◌, ◌++◌, map, filter, length, Some, None, refl, sym, ap, ◌∙◌, inl, arith}
 use Rattle.std.specs.List.{AllByRecursion, list_all}
 use Rattle.std.proofs.lemmas.Bool.{cond-true, cond-false, and_from}
 use Rattle.limits.specs.declared.pair.Pair.{Pair}
@@ -12,7 +12,7 @@ use Rattle.planner.proofs.Chosen.{final_named}
 use Rattle.planner.proofs.Fold.{reflexive, seens_all}
 use Rattle.planner.proofs.Told.{told_unspent}
 use Rattle.planner.proofs.Laws.{Laws}
-use Rattle.planner.proofs.Left.{Owes, owes_whole, owes_skip, Idle, idle_all}
+use Rattle.planner.proofs.Left.{from_nothing, Owes, owes_whole, owes_skip, Idle, idle_all}
 
 module _ {T : Type 0} (a : Aim T) (laws : Laws a) where
   -- with no link the empty selection is the one setting
@@ -36,10 +36,9 @@ module _ {T : Type 0} (a : Aim T) (laws : Laws a) where
 
   barren_some : (cs : List (List Pair)) → 0 < length cs → LawfulCandidates cs → a.within [] ≡ false → Barren cs
   barren_some cs some lawful outside =
-      let all : map (λ y. [] ++ y) (partial cs) ++ [] ≡ partial cs = append-nil (map (λ y. [] ++ y) (partial cs)) ∙ map-id (partial cs) in
       let f = lawful.few in
       let idle : AllByRecursion (Idle a cs None) (map (λ y. [] ++ y) (partial cs)) = idle_all a cs laws None [] cs tt lawful.lawful (omega arith) (inl outside) in
-      let end : Owes a cs None 0 [] = owes_skip a cs None 0 (map (λ y. [] ++ y) (partial cs)) [] idle (rw all (owes_whole a cs)) in
+      let end : Owes a cs None 0 [] = owes_skip a cs None 0 (map (λ y. [] ++ y) (partial cs)) [] idle (rw (from_nothing (partial cs)) (owes_whole a cs)) in
       let c = end.count in
       record {
         none = final_named a laws.ranks cs some lawful None (sym end.ends);

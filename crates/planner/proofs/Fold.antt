@@ -9,7 +9,8 @@ use Rattle.limits.specs.declared.pair.Pair.{Pair}
 use Rattle.planner.specs.Named.{Aim, no_more, admitted, visited, visits}
 use Rattle.planner.specs.Selections.{before, parent, complete, partial}
 use Rattle.planner.specs.Table.{LawfulCandidates}
-use Rattle.planner.proofs.Members.{any_same, any_none, any_kept, all_weaker}
+use Rattle.std.proofs.ByRecursion.{All-weaker}
+use Rattle.planner.proofs.Members.{any_same, any_none, any_kept}
 use Rattle.planner.proofs.Order.{full, Ahead, before_self, partial_ordered, complete_is}
 use Rattle.planner.proofs.Pairwise.{Pairwise, pairwise_at}
 
@@ -108,8 +109,8 @@ module _ {T : Type 0} (a : Aim T) where
           let h : List Pair → Bool = λ s. full cs s && g s in
           let ordered : Pairwise (Ahead cs) (qs ++ p ∷ ps) = rw split (partial_ordered cs lawful.rising) in
           let parts = pairwise_at (Ahead cs) qs p ps ordered in
-          let early : list_any h qs ≡ list_any (hit cs x) qs = any_same h (hit cs x) qs (all_weaker (λ s. Ahead cs s p) (λ s. h s ≡ hit cs x s) (λ s o. and_ahead (full cs s) (a.within s) (before s p) (no_more a s x) o.0) qs parts.0) in
-          let late : list_any h (p ∷ ps) ≡ false = any_none h (p ∷ ps) (and_behind (full cs p) (a.within p) (before p p) (no_more a p x) (before_self p), all_weaker (Ahead cs p) (λ s. h s ≡ false) (λ s o. and_behind (full cs s) (a.within s) (before s p) (no_more a s x) o.1) ps parts.1) in
+          let early : list_any h qs ≡ list_any (hit cs x) qs = any_same h (hit cs x) qs (All-weaker (λ s. Ahead cs s p) (λ s. h s ≡ hit cs x s) (λ s o. and_ahead (full cs s) (a.within s) (before s p) (no_more a s x) o.0) qs parts.0) in
+          let late : list_any h (p ∷ ps) ≡ false = any_none h (p ∷ ps) (and_behind (full cs p) (a.within p) (before p p) (no_more a p x) (before_self p), All-weaker (Ahead cs p) (λ s. h s ≡ false) (λ s o. and_behind (full cs s) (a.within s) (before s p) (no_more a s x) o.1) ps parts.1) in
           let whole : list_any f (admitted a cs) ≡ list_any (hit cs x) qs =
           any_kept a.within f (complete cs) ∙ ap (list_any g) (complete_is cs some) ∙ any_kept (full cs) g (partial cs) ∙ ap (list_any h) (sym split) ∙ list_any-append h qs (p ∷ ps) ∙ ap₂ (λ b c. b || c) early late ∙ or-false (list_any (hit cs x) qs) in
           ap (λ b. a.within x && not b) (beats_final cs None qs x ∙ sym whole)

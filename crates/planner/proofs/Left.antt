@@ -1,5 +1,5 @@
 -- What is left of the walk while the search is on its way, and what it may leave out.
-use Rattle.std.proofs.Common.{◌≡◌, ℕ, suc, ◌+◌, ◌-◌, ◌<◌, ◌≤◌, true, false, cond, not, ◌&&◌, List, [], ◌∷◌, ◌++◌, map, length, Some, None, Option, refl, sym, ap, ap₂, ◌∙◌, ◌⊎◌, inl, inr, zero-add, append_assoc, length-append, take_at, arith}
+use Rattle.std.proofs.Common.{◌≡◌, ℕ, suc, ◌+◌, ◌-◌, ◌<◌, ◌≤◌, true, false, cond, not, ◌&&◌, List, [], ◌∷◌, ◌++◌, map, length, Some, None, Option, refl, sym, ap, ap₂, ◌∙◌, ◌⊎◌, inl, inr, zero-add, append_assoc, length-append, take_at, arith, append-nil, map-id}
 use Rattle.std.specs.List.{AllByRecursion}
 use Rattle.std.proofs.lemmas.Bool.{both_ways, and_left, and_right, not_from_true, cases_Bool, cond-false}
 use Rattle.std.proofs.lemmas.List.{map-append}
@@ -9,16 +9,21 @@ use Rattle.planner.specs.Named.{Aim}
 use Rattle.planner.specs.Selections.{parent, partial}
 use Rattle.planner.proofs.Fold.{beats, next, final, seen, seens}
 use Rattle.planner.proofs.Laws.{Laws}
-use Rattle.planner.proofs.Members.{all_append, all_front, all_map, all_weaker}
+use Rattle.std.proofs.ByRecursion.{All-append, All-map, All-weaker}
+use Rattle.planner.proofs.Members.{all_front}
 use Rattle.planner.proofs.Order.{full}
 
 -- ---- selections
 pub selection_append : (s y : List Pair) → AllByRecursion Lawful s → AllByRecursion Lawful y → length s + length y ≤ max_pairs → Selection (s ++ y)
-selection_append s y l m h = record { few = simp length-append h; each = all_append Lawful s y l m }
+selection_append s y l m h = record { few = simp length-append h; each = All-append Lawful s y l m }
 
 -- the parent of a selection with one more pair
 pub parent_push : (s : List Pair) (p : Pair) → parent (s ++ p ∷ []) ≡ s
 parent_push s p = take_at s (p ∷ []) (length (s ++ p ∷ []) - 1) (simp length-append (omega arith))
+
+-- what goes on from nothing is all there is
+pub from_nothing : (ys : List (List Pair)) → map (λ y. [] ++ y) ys ++ [] ≡ ys
+from_nothing ys = append-nil (map (λ y. [] ++ y) ys) ∙ map-id ys
 
 -- what `partial` lists: at most k lawful pairs, of which one is the last
 record Fit (k : ℕ) (y : List Pair) : Type 0 where
@@ -38,8 +43,8 @@ fit_blocks : (k : ℕ) (qs : List Pair) (cs : List (List Pair)) → AllByRecursi
 fit_blocks k [] cs l f = tt
 fit_blocks k (q ∷ qs) cs l f = (
   fit_one k q l.0,
-  all_append (Fit (suc k)) (map (λ s. q ∷ s) (partial cs)) (partial (qs ∷ cs))
-      (all_map (Fit (suc k)) (λ s. q ∷ s) (partial cs) (all_weaker (Fit k) (λ s. Fit (suc k) (q ∷ s)) (λ s. fit_cons k q s l.0) (partial cs) f))
+  All-append (Fit (suc k)) (map (λ s. q ∷ s) (partial cs)) (partial (qs ∷ cs))
+      (All-map (Fit (suc k)) (λ s. q ∷ s) (partial cs) (All-weaker (Fit k) (λ s. Fit (suc k) (q ∷ s)) (λ s. fit_cons k q s l.0) (partial cs) f))
       (fit_blocks k qs cs l.1 f),
 )
 
@@ -136,7 +141,7 @@ module _ {T : Type 0} (a : Aim T) (cs : List (List Pair)) where
 
     -- nothing below s is visited
     pub idle_all : (b : Option (List Pair)) (s : List Pair) (qs : List (List Pair)) → AllByRecursion Lawful s → AllByRecursion (λ c. AllByRecursion Lawful c) qs → length s + length qs ≤ max_pairs → Lost b s → AllByRecursion (Idle b) (map (λ y. s ++ y) (partial qs))
-    idle_all b s qs l m h lost = all_map (Idle b) (λ y. s ++ y) (partial qs) (all_weaker (Fit (length qs)) (λ y. Idle b (s ++ y)) (idle_fit b s (length qs) l h lost) (partial qs) (fits qs m))
+    idle_all b s qs l m h lost = All-map (Idle b) (λ y. s ++ y) (partial qs) (All-weaker (Fit (length qs)) (λ y. Idle b (s ++ y)) (idle_fit b s (length qs) l h lost) (partial qs) (fits qs m))
 
 -- what is left at a link: the selections that go on from those pairs with one of its candidates
 abbrev pub nodes : List Pair → List Pair → List (List Pair) → List (List Pair)

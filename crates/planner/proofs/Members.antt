@@ -1,7 +1,10 @@
 -- What stands in a list, and the tests that look through one.
-use Rattle.std.proofs.Common.{◌≡◌, ℕ, zero, suc, drop, Bool, true, false, cond, ◌&&◌, ◌||◌, List, [], ◌∷◌, ◌++◌, map, filter, ◌⊎◌, inl, inr, refl, sym, ap, ap₂, ◌∙◌}
+use Rattle.std.proofs.Common.{◌≡◌, Bool, true, false, cond, ◌&&◌, ◌||◌, List, [], ◌∷◌, ◌++◌, map, filter, ◌⊎◌, inl, inr, refl, sym, ap, ap₂, ◌∙◌}
 use Rattle.std.specs.List.{AllByRecursion, list_any, list_all}
-use Rattle.std.proofs.lemmas.Bool.{both_ways, and_from, and_parts, or_left, or_right, or_cases}
+use Rattle.std.proofs.lemmas.List.Elements.{All-from_recursion}
+use Rattle.std.proofs.lemmas.List.Folds.{list_any_none}
+use Rattle.limits.specs.Every.{all_from_every, every_from_all}
+use Rattle.std.proofs.lemmas.Bool.{both_ways, or_left, or_right, or_cases}
 
 -- x is one of the elements
 abbrev pub In : {X : Type 0} → X → List X → Type 0
@@ -15,25 +18,10 @@ module _ {X : Type 0} (P : X → Type 0) where
   all_every h [] = tt
   all_every h (x ∷ xs) = (h x, all_every h xs)
 
-  -- of both parts
-  pub all_append : (xs ys : List X) → AllByRecursion P xs → AllByRecursion P ys → AllByRecursion P (xs ++ ys)
-  all_append [] ys a b = b
-  all_append (x ∷ xs) ys a b = (a.0, all_append xs ys a.1 b)
-
   -- of the first part
   pub all_front : (xs ys : List X) → AllByRecursion P (xs ++ ys) → AllByRecursion P xs
   all_front [] ys a = tt
   all_front (x ∷ xs) ys a = (a.0, all_front xs ys a.1)
-
-  -- of what a function gives
-  pub all_map : {Y : Type 0} (f : Y → X) (ys : List Y) → AllByRecursion (λ y. P (f y)) ys → AllByRecursion P (map f ys)
-  all_map f [] a = tt
-  all_map f (y ∷ ys) a = (a.0, all_map f ys a.1)
-
-  -- of each, what follows from it
-  pub all_weaker : (Q : X → Type 0) → ((x : X) → P x → Q x) → (xs : List X) → AllByRecursion P xs → AllByRecursion Q xs
-  all_weaker Q h [] a = tt
-  all_weaker Q h (x ∷ xs) a = (h x a.0, all_weaker Q h xs a.1)
 
   -- of one of them
   pub all_in : (xs : List X) (x : X) → AllByRecursion P xs → In x xs → P x
@@ -66,8 +54,7 @@ module _ {X : Type 0} (f : X → Bool) where
 
   -- nothing passes a test that each fails
   pub any_none : (xs : List X) → AllByRecursion (λ x. f x ≡ false) xs → list_any f xs ≡ false
-  any_none [] a = refl
-  any_none (x ∷ xs) a = ap (λ b. b || list_any f xs) a.0 ∙ any_none xs a.1
+  any_none xs a = list_any_none f xs (All-from_recursion (λ x. f x ≡ false) xs a)
 
   -- an element that passes is found
   pub any_in : (xs : List X) (x : X) → In x xs → f x ≡ true → list_any f xs ≡ true
@@ -77,14 +64,11 @@ module _ {X : Type 0} (f : X → Bool) where
 
   -- all pass, as each does
   pub every_from_in : (xs : List X) → ((x : X) → In x xs → f x ≡ true) → list_all f xs ≡ true
-  every_from_in [] h = refl
-  every_from_in (x ∷ xs) h = and_from (f x) (list_all f xs) (h x (inl refl)) (every_from_in xs (λ y i. h y (inr i)))
+  every_from_in xs h = every_from_all f xs (all_from_in (λ x. f x ≡ true) xs h)
 
   -- each passes, as all do
   pub every_in : (xs : List X) (x : X) → list_all f xs ≡ true → In x xs → f x ≡ true
-  every_in [] x e i = absurd i
-  every_in (y ∷ ys) x e (inl p) = ap f p ∙ (and_parts (f y) (list_all f ys) e).0
-  every_in (y ∷ ys) x e (inr i) = every_in ys x (and_parts (f y) (list_all f ys) e).1 i
+  every_in xs x e i = all_in (λ y. f y ≡ true) xs x (all_from_every f xs e) i
 
 -- ---- what a filter keeps
 module _ {X : Type 0} (f : X → Bool) where
@@ -149,9 +133,3 @@ pub in_map : {X Y : Type 0} (f : X → Y) (x : X) (xs : List X) → In x xs → 
 in_map f x [] i = absurd i
 in_map f x (z ∷ xs) (inl e) = inl (ap f e)
 in_map f x (z ∷ xs) (inr i) = inr (in_map f x xs i)
-
--- what holds of each holds of each behind the first n
-pub all_drop : {X : Type 0} (P : X → Type 0) (n : ℕ) (xs : List X) → AllByRecursion P xs → AllByRecursion P (drop n xs)
-all_drop P zero xs a = a
-all_drop P (suc n) [] a = a
-all_drop P (suc n) (x ∷ xs) a = all_drop P n xs a.1

@@ -6,7 +6,8 @@ use Rattle.std.proofs.lemmas.List.Elements.{filter-append}
 use Rattle.limits.specs.declared.pair.Pair.{Pair}
 use Rattle.planner.specs.Selections.{before, complete, partial}
 use Rattle.planner.specs.Table.{Rising}
-use Rattle.planner.proofs.Members.{all_append, all_map, all_every, all_weaker, filter_map_of}
+use Rattle.std.proofs.ByRecursion.{All-append, All-map, All-weaker}
+use Rattle.planner.proofs.Members.{all_every, filter_map_of}
 use Rattle.planner.proofs.Pairwise.{Pairwise, pairwise_append, pairwise_map}
 
 -- whether a selection has as many pairs as there are links
@@ -61,8 +62,8 @@ block q cs = (q ∷ []) ∷ map (λ s. q ∷ s) (partial cs)
 heads : (P : Pair → Type 0) (qs : List Pair) (cs : List (List Pair)) → AllByRecursion P qs → AllByRecursion (Head P) (partial (qs ∷ cs))
 heads P [] cs a = tt
 heads P (q ∷ qs) cs a =
-    all_append (Head P) (block q cs) (partial (qs ∷ cs))
-    (a.0, all_map (Head P) (λ s. q ∷ s) (partial cs) (all_every (λ s. P q) (λ s. a.0) (partial cs)))
+    All-append (Head P) (block q cs) (partial (qs ∷ cs))
+    (a.0, All-map (Head P) (λ s. q ∷ s) (partial cs) (all_every (λ s. P q) (λ s. a.0) (partial cs)))
     (heads P qs cs a.1)
 
 -- a smaller first gap
@@ -77,7 +78,7 @@ ahead_cross c cs q x (r ∷ y) h = (
 first_ahead : (c : List Pair) (cs : List (List Pair)) (q : Pair) → AllByRecursion (Ahead (c ∷ cs) (q ∷ [])) (map (λ s. q ∷ s) (partial cs))
 first_ahead c [] q = tt
 first_ahead c (d ∷ cs) q =
-    all_map (Ahead (c ∷ d ∷ cs) (q ∷ [])) (λ s. q ∷ s) (partial (d ∷ cs))
+    All-map (Ahead (c ∷ d ∷ cs) (q ∷ [])) (λ s. q ∷ s) (partial (d ∷ cs))
     (all_every (λ y. Ahead (c ∷ d ∷ cs) (q ∷ []) (q ∷ y)) (λ y. (λ e. absurd (both_ways false refl e), before_cons q y [] ∙ before_nil y)) (partial (d ∷ cs)))
 
 -- by the candidates of the first link
@@ -85,11 +86,11 @@ blocks : (c qs : List Pair) (cs : List (List Pair)) → Rising qs → Pairwise (
 blocks c [] cs r p = tt
 blocks c (q ∷ qs) cs r p =
     let later : AllByRecursion (Head (λ r. q.gap < r.gap)) (partial (qs ∷ cs)) = heads (λ r. q.gap < r.gap) qs cs r.0 in
-    let cross : (x : List Pair) → AllByRecursion (Ahead (c ∷ cs) (q ∷ x)) (partial (qs ∷ cs)) = λ x. all_weaker (Head (λ r. q.gap < r.gap)) (Ahead (c ∷ cs) (q ∷ x)) (λ y. ahead_cross c cs q x y) (partial (qs ∷ cs)) later in
+    let cross : (x : List Pair) → AllByRecursion (Ahead (c ∷ cs) (q ∷ x)) (partial (qs ∷ cs)) = λ x. All-weaker (Head (λ r. q.gap < r.gap)) (Ahead (c ∷ cs) (q ∷ x)) (λ y. ahead_cross c cs q x y) (partial (qs ∷ cs)) later in
     pairwise_append (Ahead (c ∷ cs)) (block q cs) (partial (qs ∷ cs))
     (first_ahead c cs q, pairwise_map (Ahead (c ∷ cs)) (Ahead cs) (λ s. q ∷ s) (λ x y h. (λ e. before_cons q x y ∙ h.0 e, before_cons q y x ∙ h.1)) (partial cs) p)
     (blocks c qs cs r.1 p)
-    (cross [], all_map (λ x. AllByRecursion (Ahead (c ∷ cs) x) (partial (qs ∷ cs))) (λ s. q ∷ s) (partial cs) (all_every (λ x. AllByRecursion (Ahead (c ∷ cs) (q ∷ x)) (partial (qs ∷ cs))) cross (partial cs)))
+    (cross [], All-map (λ x. AllByRecursion (Ahead (c ∷ cs) x) (partial (qs ∷ cs))) (λ s. q ∷ s) (partial cs) (all_every (λ x. AllByRecursion (Ahead (c ∷ cs) (q ∷ x)) (partial (qs ∷ cs))) cross (partial cs)))
 
 -- whatever stands earlier in `partial` is ahead
 pub partial_ordered : (cs : List (List Pair)) → AllByRecursion Rising cs → Pairwise (Ahead cs) (partial cs)

@@ -1,7 +1,8 @@
 -- Lists in which each element stands in a relation to all behind it.
 use Rattle.std.proofs.Common.{Bool, true, false, cond, List, [], ◌∷◌, ◌++◌, map, filter}
 use Rattle.std.specs.List.{AllByRecursion}
-use Rattle.planner.proofs.Members.{all_append, all_map, all_weaker, all_in, all_from_in, in_middle, in_kept}
+use Rattle.std.proofs.ByRecursion.{All-append, All-map, All-weaker}
+use Rattle.planner.proofs.Members.{all_in, all_from_in, in_middle, in_kept}
 
 -- each stands in the relation to all behind it
 abbrev pub Pairwise : {X : Type 0} → (X → X → Type 0) → List X → Type 0
@@ -12,12 +13,12 @@ module _ {X : Type 0} (R : X → X → Type 0) where
   -- two such lists joined, where each of the first stands so to all of the second
   pub pairwise_append : (xs ys : List X) → Pairwise R xs → Pairwise R ys → AllByRecursion (λ x. AllByRecursion (R x) ys) xs → Pairwise R (xs ++ ys)
   pairwise_append [] ys a b c = b
-  pairwise_append (x ∷ xs) ys a b c = (all_append (R x) xs ys a.0 c.0, pairwise_append xs ys a.1 b c.1)
+  pairwise_append (x ∷ xs) ys a b c = (All-append (R x) xs ys a.0 c.0, pairwise_append xs ys a.1 b c.1)
 
   -- such a list of what a function gives
   pub pairwise_map : {Y : Type 0} (S : Y → Y → Type 0) (f : Y → X) → ((x y : Y) → S x y → R (f x) (f y)) → (ys : List Y) → Pairwise S ys → Pairwise R (map f ys)
   pairwise_map S f h [] p = tt
-  pairwise_map S f h (y ∷ ys) p = (all_map (R (f y)) f ys (all_weaker (S y) (λ z. R (f y) (f z)) (h y) ys p.0), pairwise_map S f h ys p.1)
+  pairwise_map S f h (y ∷ ys) p = (All-map (R (f y)) f ys (All-weaker (S y) (λ z. R (f y) (f z)) (h y) ys p.0), pairwise_map S f h ys p.1)
 
   -- the elements ahead of one, and those behind it
   pub pairwise_at : (xs : List X) (x : X) (ys : List X) → Pairwise R (xs ++ x ∷ ys) → AllByRecursion (λ y. R y x) xs × AllByRecursion (R x) ys

@@ -1,5 +1,5 @@
 -- What each turn of the search does to what is left.
-use Rattle.std.proofs.Common.{◌≡◌, ℕ, zero, suc, ◌+◌, ◌-◌, ◌<◌, ◌≤◌, Bool, true, false, not, ◌&&◌, if◌then◌else◌, ltb, leb, List, [], ◌∷◌, ◌++◌, map, length, get_or, drop, Some, None, Option, option_map, refl, sym, ap, ap₂, ◌∙◌, subst, subst₂, ◌⊎◌, inr, length-append, length-drop, append-nil, append_assoc, map-id, drop-cons, drop_at, arith}
+use Rattle.std.proofs.Common.{◌≡◌, ℕ, zero, suc, ◌+◌, ◌-◌, ◌<◌, ◌≤◌, Bool, true, false, not, ◌&&◌, if◌then◌else◌, ltb, leb, List, [], ◌∷◌, ◌++◌, map, length, get_or, drop, Some, None, Option, option_map, refl, sym, ap, ap₂, ◌∙◌, subst, subst₂, ◌⊎◌, inr, length-append, length-drop, append_assoc, drop-cons, drop_at, arith}
 use Rattle.std.specs.List.{AllByRecursion}
 use Rattle.std.specs.Option.{option_map_or, IfSome}
 use Rattle.std.proofs.lemmas.Bool.{and_from, and_left, not_from_false, cond-true, cond-false, lt-ltb, lt-leb}
@@ -17,8 +17,8 @@ use Rattle.planner.specs.Table.{LawfulCandidates}
 use Rattle.planner.proofs.Chosen.{final_named}
 use Rattle.planner.proofs.Fold.{beats, next, seen, seens_all}
 use Rattle.planner.proofs.Laws.{Laws}
-use Rattle.planner.proofs.Left.{selection_append, parent_push, Owes, owes_whole, owes_skip, owes_back, owes_visit, owes_more, Idle, Lost, lost_next, idle_all, nodes, nodes_cons}
-use Rattle.planner.proofs.Members.{all_append, all_drop}
+use Rattle.planner.proofs.Left.{selection_append, parent_push, Owes, owes_whole, owes_skip, owes_back, owes_visit, owes_more, Idle, Lost, lost_next, idle_all, nodes, nodes_cons, from_nothing}
+use Rattle.std.proofs.ByRecursion.{All-append, All-drop}
 use Rattle.planner.proofs.Order.{full, full_long, full_short}
 use Rattle.planner.proofs.Told.{told_unspent}
 use Rattle.planner.proofs.Stack.{base, row_of, below_of, level_left, rows_left, row_turns, all_turns, row_turns_pos, row_turns_drop, level_turns, turns}
@@ -87,7 +87,7 @@ module _ {B T : Type 0} (loaded : List Pair → B) (a : Aim T) (cs : List (List 
   level_idle b level rs l e deep lost =
       let f = lawful.few in
       idle_all a cs laws b (base rs) (drop level.tried (row_of cs rs) ∷ below_of cs rs) l
-      (all_drop Lawful level.tried (row_of cs rs) (lawful_at cs (length rs) lawful.lawful), all_drop (λ c. AllByRecursion Lawful c) (suc (length rs)) cs lawful.lawful)
+      (All-drop Lawful level.tried (row_of cs rs) (lawful_at cs (length rs) lawful.lawful), All-drop (λ c. AllByRecursion Lawful c) (suc (length rs)) cs lawful.lawful)
       (omega (arith, length-drop (suc (length rs)) cs)) lost
 
   base_length : (rs : List (WorkRow B T)) → length (base rs) ≡ length rs
@@ -192,7 +192,7 @@ module _ {B T : Type 0} (loaded : List Pair → B) (a : Aim T) (cs : List (List 
     where
       from_first : (ds : List (List Pair)) → 0 < length ds → map (λ y. [] ++ y) (partial (get_or ds 0 [] ∷ drop 1 ds)) ++ [] ≡ partial ds
       from_first [] l = absurd (omega arith)
-      from_first (d ∷ ds) l = append-nil (map (λ y. [] ++ y) (partial (d ∷ ds))) ∙ map-id (partial (d ∷ ds))
+      from_first (d ∷ ds) l = from_nothing (partial (d ∷ ds))
 
       all_left : (ds : List (List Pair)) → 0 < length ds → level_left ds here [] ++ [] ≡ partial ds
       all_left ds l = ap (λ n. map (λ y. [] ++ y) (partial (drop n (get_or ds 0 []) ∷ drop 1 ds)) ++ []) fresh ∙ from_first ds l
@@ -206,10 +206,10 @@ module _ {B T : Type 0} (loaded : List Pair → B) (a : Aim T) (cs : List (List 
     visit_length = omega (arith, length-append (base rs) (p ∷ []), base_length rs)
 
     p_lawful : Lawful p
-    p_lawful = (subst (λ c. AllByRecursion Lawful c) row_is (all_drop Lawful here.tried (row_of cs rs) (lawful_at cs (length rs) lawful.lawful))).0
+    p_lawful = (subst (λ c. AllByRecursion Lawful c) row_is (All-drop Lawful here.tried (row_of cs rs) (lawful_at cs (length rs) lawful.lawful))).0
 
     visit_lawful : AllByRecursion Lawful (base rs ++ p ∷ [])
-    visit_lawful = all_append Lawful (base rs) (p ∷ []) h.stands.reached.lawful (p_lawful, tt)
+    visit_lawful = All-append Lawful (base rs) (p ∷ []) h.stands.reached.lawful (p_lawful, tt)
 
     -- it is a selection
     pub visit_selection : Selection (base rs ++ p ∷ [])
@@ -273,7 +273,7 @@ module _ {B T : Type 0} (loaded : List Pair → B) (a : Aim T) (cs : List (List 
           let b = h.stands.found in
           let deep = h.stands.deep in
           let f = lawful.few in
-          let idle : AllByRecursion (Idle a cs b) sub = idle_all a cs laws b (base rs ++ p ∷ []) (below_of cs rs) visit_lawful (all_drop (λ c. AllByRecursion Lawful c) (suc (length rs)) cs lawful.lawful) (omega (arith, visit_length, length-drop (suc (length rs)) cs)) lost in
+          let idle : AllByRecursion (Idle a cs b) sub = idle_all a cs laws b (base rs ++ p ∷ []) (below_of cs rs) visit_lawful (All-drop (λ c. AllByRecursion Lawful c) (suc (length rs)) cs lawful.lawful) (omega (arith, visit_length, length-drop (suc (length rs)) cs)) lost in
           let stays : Owes a cs b (v + 1) (sub ++ rest) = subst (λ c. Owes a cs c (v + 1) (sub ++ rest)) (lost_next a cs b (base rs ++ p ∷ []) lost) next_owes in
           record {
             stands = record {

@@ -1,6 +1,7 @@
-use Rattle.std.proofs.Common.{rules, ◌<◌, [], ◌∷◌, ◌++◌, length, ◌-◌, sym, refl, ◌∙◌, arith}
+use Rattle.std.proofs.Common.{rules, ◌<◌, [], ◌∷◌, ◌++◌, length, ◌-◌, sym, refl, ◌∙◌, arith, ℕ, eqb, true, ◌≡◌}
 use Rattle.std.proofs.lemmas.Bool.{eq-eqb, ne_eqb}
 use borrow.Author.Rules.{scaled_Fits}
+use Rattle.limits.specs.Taken.{Takes, HoldsOfKept}
 use Rattle.planner.specs.Named.{aim_of}
 use Rattle.planner.specs.Work.{held}
 use Rattle.planner.proofs.Laws.{Laws, laws_of}
@@ -23,6 +24,13 @@ used_up_here g c = used_up_at (laws g c.args.limit.now c.args.measure.now) c.req
 -- the turn, where there is a next one
 next_here : (g : given.Over) (c : In-Some g) → HasNext (g.L.Limit.loaded c.args.limit.now) (aim_of (g.L.Limit.breach c.args.limit.now) (g.M.Measure.totalled c.args.measure.now) (g.M.Measure.atmost c.args.measure.now)) c.args.links (held c.args.links c.args.work.now) c.args.allowance c.args.setting.now c.loop-pair.here c.loop-pair.depth c.loop-pair.work c.loop-pair.best c.loop-pair.setting c.loop-pair.visits c.in-Some.pair
 next_here g c = next_at (laws g c.args.limit.now c.args.measure.now) c.requires.lawful c.loop-pair.invariant c.index-work-depth.result c.candidate.result c.candidate.ensures.value c.candidate.ensures.bound c.in-Some.pair c.in-Some.is
+
+-- the selection with it is within, as its load tells
+within_here : (g : given.Over) (c : In-Some g) (load : g.row.L-Load.Denot) (breach : ℕ) → Takes (g.L.Limit.loaded c.args.limit.now) c.loop-pair.here.load c.in-Some.pair load → HoldsOfKept (g.L.Limit.loaded c.args.limit.now) load (λ s. breach ≡ g.L.Limit.breach c.args.limit.now s) → breach ≡ 0 → eqb (g.L.Limit.breach c.args.limit.now (base (stack c.loop-pair.work c.loop-pair.depth) ++ c.in-Some.pair ∷ [])) 0 ≡ true
+within_here g c load breach takes holds none =
+    let t = next_here g c in
+    let q = base (stack c.loop-pair.work c.loop-pair.depth) ++ c.in-Some.pair ∷ [] in
+    eq-eqb (g.L.Limit.breach c.args.limit.now q) 0 (sym (holds q (load_of t load takes) (taken t)) ∙ none)
 
 pub loop-pair-init : goal.loop-pair-init
 loop-pair-init g c =
@@ -102,40 +110,30 @@ loop-pair-smaller-then-is_beaten g c =
 pub loop-pair-preserved-then-depth-links : goal.loop-pair-preserved-then-depth-links
 loop-pair-preserved-then-depth-links g c =
     let t = next_here g (goal.at.loop-pair-preserved-then-depth-links g c).In-Some in
-    let q = base (stack c.loop-pair.work c.loop-pair.depth) ++ c.in-Some.pair ∷ [] in
     let load = load_of t c.load_with-load.result c.load_with-load.ensures in
-    let breach = c.breach_of.ensures q load (taken t) in
-    let within = eq-eqb (g.L.Limit.breach c.args.limit.now q) 0 (sym breach ∙ c.if-breach_of-ne0.false) in
+    let within = within_here g (goal.at.loop-pair-preserved-then-depth-links g c).In-Some c.load_with-load.result c.breach_of.result c.load_with-load.ensures c.breach_of.ensures c.if-breach_of-ne0.false in
     let total = total_of t c.total_with-total.result c.total_with-total.ensures in
     next_walks t c.if-visits-allowance.false c.total_with-total.result total c.is_beaten.result c.is_beaten.ensures within c.if-is_beaten.false c.if-depth-links.true c.index-work-depth-then-depth-links.result c.leave.new.self c.leave.ensures c.fresh-here-then-depth-links.result c.load_with-load.result c.fresh-here-then-depth-links.ensures load
 
 pub loop-pair-smaller-then-depth-links : goal.loop-pair-smaller-then-depth-links
 loop-pair-smaller-then-depth-links g c =
     let t = next_here g (goal.at.loop-pair-smaller-then-depth-links g c).In-Some in
-    let q = base (stack c.loop-pair.work c.loop-pair.depth) ++ c.in-Some.pair ∷ [] in
     let load = load_of t c.load_with-load.result c.load_with-load.ensures in
-    let breach = c.breach_of.ensures q load (taken t) in
-    let within = eq-eqb (g.L.Limit.breach c.args.limit.now q) 0 (sym breach ∙ c.if-breach_of-ne0.false) in
+    let within = within_here g (goal.at.loop-pair-smaller-then-depth-links g c).In-Some c.load_with-load.result c.breach_of.result c.load_with-load.ensures c.breach_of.ensures c.if-breach_of-ne0.false in
     let total = total_of t c.total_with-total.result c.total_with-total.ensures in
     next_less t c.if-visits-allowance.false c.total_with-total.result total c.is_beaten.result c.is_beaten.ensures within c.if-is_beaten.false c.if-depth-links.true c.index-work-depth-then-depth-links.result c.leave.new.self c.leave.ensures c.fresh-here-then-depth-links.result c.load_with-load.result c.fresh-here-then-depth-links.ensures load
 
 pub loop-pair-preserved : goal.loop-pair-preserved
 loop-pair-preserved g c =
     let t = next_here g (goal.at.loop-pair-preserved g c).In-Some in
-    let q = base (stack c.loop-pair.work c.loop-pair.depth) ++ c.in-Some.pair ∷ [] in
-    let load = load_of t c.load_with-load.result c.load_with-load.ensures in
-    let breach = c.breach_of.ensures q load (taken t) in
-    let within = eq-eqb (g.L.Limit.breach c.args.limit.now q) 0 (sym breach ∙ c.if-breach_of-ne0.false) in
+    let within = within_here g (goal.at.loop-pair-preserved g c).In-Some c.load_with-load.result c.breach_of.result c.load_with-load.ensures c.breach_of.ensures c.if-breach_of-ne0.false in
     let total = total_of t c.total_with-total.result c.total_with-total.ensures in
     rw c.pruned-here-in-loop-pair.ensures (best_walks t c.if-visits-allowance.false c.total_with-total.result total c.is_beaten.result c.is_beaten.ensures within c.if-is_beaten.false c.if-depth-links.false c.write_setting.new.setting c.write_setting.ensures)
 
 pub loop-pair-smaller : goal.loop-pair-smaller
 loop-pair-smaller g c =
     let t = next_here g (goal.at.loop-pair-smaller g c).In-Some in
-    let q = base (stack c.loop-pair.work c.loop-pair.depth) ++ c.in-Some.pair ∷ [] in
-    let load = load_of t c.load_with-load.result c.load_with-load.ensures in
-    let breach = c.breach_of.ensures q load (taken t) in
-    let within = eq-eqb (g.L.Limit.breach c.args.limit.now q) 0 (sym breach ∙ c.if-breach_of-ne0.false) in
+    let within = within_here g (goal.at.loop-pair-smaller g c).In-Some c.load_with-load.result c.breach_of.result c.load_with-load.ensures c.breach_of.ensures c.if-breach_of-ne0.false in
     let total = total_of t c.total_with-total.result c.total_with-total.ensures in
     rw c.pruned-here-in-loop-pair.ensures (best_less t c.if-visits-allowance.false c.total_with-total.result total c.is_beaten.result c.is_beaten.ensures within c.if-is_beaten.false c.if-depth-links.false c.write_setting.new.setting c.write_setting.ensures)
 
