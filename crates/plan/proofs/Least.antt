@@ -18,12 +18,12 @@ pair_least : (fs : List Flow) (g : ℕ) (o : Option ℕ) → MatchOption o (None
 pair_least fs g None no' = λ m l h. no' m l (omega arith)
 pair_least fs g (Some n) c = (refl, c.0, omega arith, c.2, λ m l t. grind (arith, t, c.3 m))
 
-candidate_least : (fs : List Flow) (g : ℕ) → LeastAt fs g (candidate fs g)
+pub candidate_least : (fs : List Flow) (g : ℕ) → LeastAt fs g (candidate fs g)
 unfolding least_mtu
 candidate_least fs g = pair_least fs g (first_from (meets fs g) mtu_min mtu_max) (first_is (meets fs g) mtu_min mtu_max)
 
 -- a pair with the gap at k, and an MTU in range, is lawful
-lawful_least : (gaps : List ℕ) (fs : List Flow) (g : ℕ) (o : Option Pair) → among gaps g ≡ true → LeastAt fs g o → LawfulIfAny gaps o
+pub lawful_least : (gaps : List ℕ) (fs : List Flow) (g : ℕ) (o : Option Pair) → among gaps g ≡ true → LeastAt fs g o → LawfulIfAny gaps o
 lawful_least gaps fs g None e h = tt
 lawful_least gaps fs g (Some p) e h = and_from _ _ (ap (among gaps) h.0 ∙ e) (within_from_le mtu_min mtu_max p.mtu h.1 h.2)
 

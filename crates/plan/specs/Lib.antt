@@ -7,6 +7,7 @@ pub mod Candidate
 pub mod Standing
 pub mod Edited
 pub mod Ledger
+pub mod History
 pub mod Fault
 pub mod Sound
 pub mod Accepted

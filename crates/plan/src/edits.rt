@@ -1,6 +1,8 @@
 ghost use Rattle.std.specs.Prelude.{◌≡◌};
 ghost use Rattle.plan.specs.Fault.{told, told_detail};
 ghost use Rattle.plan.specs.Held.{standing};
+ghost use Rattle.plan.specs.History.{Edit, OneFurther};
+
 ghost use Rattle.plan.specs.declared.call.Call.TheVariants.{AddLink, AddFlow, Amend, Withdraw};
 ghost use Rattle.plan.specs.Ledger.{answer, after};
 ghost use Rattle.plan.specs.Standing.{nothing};
@@ -30,6 +32,7 @@ impl Plan {
         ensures number { told result ≡ answer (standing self.old) (AddLink name) }
         ensures detail { told_detail result ≡ 0 }
         ensures after { standing self.new ≡ after (standing self.old) (AddLink name) }
+        ensures further { OneFurther (standing self.old) (Edit (AddLink name)) (standing self.new) }
     {
         self.ask_add_link(name)?;
         self.enter_link(name);
@@ -47,6 +50,7 @@ impl Plan {
         ensures number { told result ≡ answer (standing self.old) (AddFlow link flow payload cycle) }
         ensures detail { told_detail result ≡ 0 }
         ensures after { standing self.new ≡ after (standing self.old) (AddFlow link flow payload cycle) }
+        ensures further { OneFurther (standing self.old) (Edit (AddFlow link flow payload cycle)) (standing self.new) }
     {
         let flow = Flow {
             name: flow,
@@ -64,6 +68,7 @@ impl Plan {
         ensures number { told result ≡ answer (standing self.old) (Amend flow payload cycle) }
         ensures detail { told_detail result ≡ 0 }
         ensures after { standing self.new ≡ after (standing self.old) (Amend flow payload cycle) }
+        ensures further { OneFurther (standing self.old) (Edit (Amend flow payload cycle)) (standing self.new) }
     {
         self.ask_amend(flow, payload, cycle)?;
         self.change_flow(flow, payload, cycle);
@@ -75,6 +80,7 @@ impl Plan {
         ensures number { told result ≡ answer (standing self.old) (Withdraw flow) }
         ensures detail { told_detail result ≡ 0 }
         ensures after { standing self.new ≡ after (standing self.old) (Withdraw flow) }
+        ensures further { OneFurther (standing self.old) (Edit (Withdraw flow)) (standing self.new) }
     {
         self.ask_withdraw(flow)?;
         self.strike_flow(flow);

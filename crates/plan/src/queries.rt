@@ -57,7 +57,7 @@ impl Plan {
         ensures frames { told result ≡ 0 → JustEnough }
     {
         self.ask_pairs(link)?;
-        self.write_pairs(link, place);
+        *place = self.candidates(link);
         Ok(())
     }
 
@@ -72,16 +72,5 @@ impl Plan {
             return Err(PlanFault::LinkWithoutFlow);
         }
         Ok(())
-    }
-
-    /// Writes the candidates of a link.
-    #[tactic(auto, using(crate::proofs::Exact::exact, crate::proofs::Frames::frames_enough, crate::proofs::Frames::frames_fewest))]
-    fn write_pairs(&self, link: u16, place: &mut [Option<Pair>; GAP_COUNT])
-        ensures written { place.new ≡ candidates eight_gaps (flows_of (standing self.now) link) }
-        ensures least { AllLeast eight_gaps (flows_of (standing self.now) link) place.new }
-        ensures exact { Exact (flows_of (standing self.now) link) }
-        ensures frames { JustEnough }
-    {
-        *place = self.flows_of(link).candidates();
     }
 }

@@ -1,6 +1,7 @@
-ghost use Rattle.std.specs.Prelude.{◌≡◌, fold, ◌≢◌};
+ghost use Rattle.std.specs.Prelude.{◌≡◌, map, fold, ◌≢◌};
 ghost use Rattle.plan.specs.Fault.{told, told_detail};
 ghost use Rattle.plan.specs.Held.{standing};
+ghost use Rattle.plan.specs.History.{Edit, ledger_of, OneFurther};
 ghost use Rattle.plan.specs.Laws.{RefusalChangesNothing, SingleNames, LinksStand, InOrderOfAdding, FiguresLastGiven, LinkLastGiven};
 ghost use Rattle.plan.specs.Ledger.{answer, after, ledger};
 
@@ -15,6 +16,7 @@ impl Plan {
         ensures number { told result ≡ answer (standing self.old) call }
         ensures detail { told_detail result ≡ 0 }
         ensures after { standing self.new ≡ after (standing self.old) call }
+        ensures further { OneFurther (standing self.old) (Edit call) (standing self.new) }
         ensures refused { (told result ≢ 0) → standing self.new ≡ standing self.old }
     {
         match call {
@@ -37,6 +39,7 @@ impl Plan {
     /// Opens a plan and performs the calls, one after the other, whatever is refused.
     pub fn replay(calls: &[Call]) -> Plan
         ensures after { standing result ≡ ledger calls.now }
+        ensures history { standing result ≡ ledger_of (map Edit calls.now) }
         ensures refusal { RefusalChangesNothing }
         ensures names { SingleNames calls.now }
         ensures stands { LinksStand calls.now }

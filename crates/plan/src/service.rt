@@ -1,10 +1,13 @@
 ghost use Rattle.std.specs.Prelude.{◌≡◌};
 ghost use Rattle.limits.specs.Gaps.{eight_gaps};
+ghost use Rattle.plan.specs.Candidate.{candidates};
 ghost use Rattle.plan.specs.Held.{standing};
-ghost use Rattle.plan.specs.Queries.{first_without_flow, served};
+ghost use Rattle.plan.specs.Message.{JustEnough, Exact};
+ghost use Rattle.plan.specs.Queries.{AllLeast, first_without_flow, served};
+ghost use Rattle.plan.specs.Standing.{flows_of};
 
 use crate::Plan;
-use limits::Pair;
+use limits::{GAP_COUNT, Pair};
 
 impl Plan {
     /// The first link in plan order that has no flow, if there is one.
@@ -15,6 +18,18 @@ impl Plan {
             .iter()
             .copied()
             .find(|link| !self.has_flow_of(*link))
+    }
+
+    /// The candidate at each gap for the flows of a link, in rising gap. Where the link has no flow or does not stand, every pair
+    /// meets the rule; `pairs` refuses such a link.
+    #[tactic(auto, using(crate::proofs::Exact::exact, crate::proofs::Frames::frames_enough, crate::proofs::Frames::frames_fewest))]
+    pub fn candidates(&self, link: u16) -> [Option<Pair>; GAP_COUNT]
+        ensures value { result ≡ candidates eight_gaps (flows_of (standing self.now) link) }
+        ensures least { AllLeast eight_gaps (flows_of (standing self.now) link) result }
+        ensures exact { Exact (flows_of (standing self.now) link) }
+        ensures frames { JustEnough }
+    {
+        self.flows_of(link).candidates()
     }
 
     /// Does the link stand, is the pair lawful, and does it meet the link's message rule?

@@ -45,3 +45,22 @@ fn pairs_of_one_link_alone(rt: HostRuntime) -> Result<(), Fail> {
     assert_eq!(rt; place, [alone, None, None, None, None, None, None, None]);
     Ok(())
 }
+
+// Without its questions: a link that stands has its candidates, and one without flows or of no name the least MTU at every gap.
+#[test]
+fn candidates_without_questions(rt: HostRuntime) -> Result<(), Fail> {
+    let mut plan = with_link()?;
+    let any = [1, 2, 4, 8, 16, 32, 64, 128].map(|gap| Some(Pair { gap, mtu: 1 }));
+    assert_eq!(rt; plan.candidates(7), any);
+    assert_eq!(rt; plan.candidates(8), any);
+    plan.add_flow(7, 1, 8192, 6)?;
+    let alone = Some(Pair { gap: 1, mtu: 1366 });
+    assert_eq!(rt;
+        plan.candidates(7),
+        [alone, None, None, None, None, None, None, None]
+    );
+    assert_eq!(rt; plan.candidates(8), any);
+    plan.amend(1, 8192, 5)?;
+    assert_eq!(rt; plan.candidates(7), [None; GAP_COUNT]);
+    Ok(())
+}
