@@ -15,5 +15,12 @@ pub mod Edges
 pub mod Exchanged
 pub mod Present
 pub mod Walk
+pub mod Served
+pub mod Choices
+pub mod Rows
+pub mod Answered
+pub mod Promised
+pub mod Endings
+pub mod Replayed
 pub mod Laws
 pub mod Told

@@ -8,7 +8,7 @@ use Rattle.planner.specs.Work.{held}
 use Rattle.planner.proofs.Left.{nodes}
 
 -- a write behind the pairs that stand already
-put : {X : Type 0} (us ys : List X) (i : ℕ) (x : X) → length us ≡ i → i < length ys → set (us ++ drop i ys) i x ≡ (us ++ x ∷ []) ++ drop (i + 1) ys
+pub put : {X : Type 0} (us ys : List X) (i : ℕ) (x : X) → length us ≡ i → i < length ys → set (us ++ drop i ys) i x ≡ (us ++ x ∷ []) ++ drop (i + 1) ys
 put us ys i x e h = ap (λ zs. set (us ++ zs) i x) (drop_more ys i x h) ∙ set_at us (get_or ys i x) (drop (i + 1) ys) x i e ∙ sym (append_assoc us (x ∷ []) (drop (i + 1) ys))
 
 module _ {B T : Type 0} where

@@ -8,3 +8,8 @@ pub mod Work
 pub mod Named
 pub mod Outcome
 pub mod Exchange
+pub mod Choice
+pub mod SolveFault
+pub mod Ending
+pub mod Promise
+pub mod Calls

@@ -1,19 +1,31 @@
 //! Settings of a port: which pair each link is given.
 #![tactic(auto)]
 
+mod answer_table;
+pub mod call;
 mod check;
 mod first_failing;
 mod outcome;
 mod port_check;
+mod replay;
 pub mod row;
 mod search;
 #[cfg(test)]
 mod search_tests;
 pub mod setting_fault;
-mod work_row;
+pub mod solve_fault;
+pub mod solved;
+mod solver;
+pub mod work_row;
 mod work_table;
 
+pub use call::{PlannerCall, SolveCall};
 pub use check::check_setting;
 pub use port_check::check_port_setting;
+pub use replay::solve_after;
 pub use row::Row;
 pub use setting_fault::SettingFault;
+pub use solve_fault::SolveFault;
+pub use solved::Solved;
+pub use solver::solve;
+pub use work_row::WorkRow;

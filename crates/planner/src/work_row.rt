@@ -1,4 +1,4 @@
-ghost use Rattle.std.specs.Prelude.{◌≡◌, ◌<◌, slice_get, OnSome};
+ghost use Rattle.std.specs.Prelude.{◌≡◌, ◌<◌, [], slice_get, OnSome};
 
 use arrayvec::ArrayVec;
 use limits::{GAP_COUNT, Pair};
@@ -26,13 +26,24 @@ impl<B: Copy, T: Copy> Level<B, T> {
 
 /// A row of the work table: the candidates of a link, and where the search left it with the pair that it tried last.
 #[derive(Drop)]
-pub(crate) struct WorkRow<B, T> {
+pub struct WorkRow<B, T> {
     pub(crate) candidates: ArrayVec<Pair, GAP_COUNT>,
     pub(crate) level: Level<B, T>,
     pub(crate) pair: Pair,
 }
 
 impl<B: Copy, T: Copy> WorkRow<B, T> {
+    /// A row to begin with, from any load and any total: a solve writes the row before it reads it.
+    pub fn new(load: B, total: T) -> WorkRow<B, T>
+        ensures { result ≡ record { candidates = record { items = [] }; level = record { load = load; total = total; tried = 0 }; pair = record { gap = 0; mtu = 0 } } }
+    {
+        WorkRow {
+            candidates: ArrayVec::new(),
+            level: Level::fresh(load, total),
+            pair: Pair::default(),
+        }
+    }
+
     /// The candidate at that place, counted from 0; none past the last.
     pub(crate) fn candidate(&self, place: usize) -> Option<Pair>
         ensures value { result ≡ slice_get self.now.candidates.items place }
