@@ -9,6 +9,7 @@ use Rattle.planner.specs.Choice.{Choice, link_candidates, first_without_candidat
 use Rattle.planner.specs.Ending.{Ending, rows_of}
 use Rattle.planner.specs.Named.{Aim, visits, named}
 use Rattle.planner.specs.Setting.{pairs}
+use Rattle.planner.specs.SolveFault.{unmeetable}
 
 -- the solve is well posed: it was not refused for a link without flow or for the size of a table
 abbrev pub well_posed : {T : Type 0} → Ending T → Bool
@@ -16,7 +17,7 @@ well_posed e = not (among (13 ∷ 14 ∷ 15 ∷ []) e.refusal.0)
 
 -- the port is called unmeetable
 abbrev pub called_unmeetable : {T : Type 0} → Ending T → Bool
-called_unmeetable e = among (16 ∷ 18 ∷ []) e.refusal.0
+called_unmeetable e = unmeetable e.refusal.0
 
 -- the allowance is said to be spent
 abbrev pub called_spent : {T : Type 0} → Ending T → Bool

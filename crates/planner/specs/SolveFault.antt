@@ -1,5 +1,6 @@
 -- The refusals of a solve: per case its number, its detail and its words.
-use Rattle.std.specs.Prelude.{ℕ, List, codes, Result}
+use Rattle.std.specs.Prelude.{ℕ, Bool, List, [], ◌∷◌, codes, Result}
+use Rattle.limits.specs.Range.{among}
 use Rattle.limits.specs.Told.{told_by}
 use Rattle.planner.specs.declared.solve_fault.SolveFault.{SolveFault}
 use Rattle.planner.specs.declared.solve_fault.SolveFault.TheVariants.{LinkWithoutFlow, AnswerTableTooShort, WorkTableTooShort, LinkWithoutCandidate, Spent, NothingWithin}
@@ -12,6 +13,10 @@ number WorkTableTooShort = 15
 number (LinkWithoutCandidate link) = 16
 number Spent = 17
 number NothingWithin = 18
+
+-- a refusal of this number calls the port unmeetable
+abbrev pub unmeetable : ℕ → Bool
+unmeetable number = among (16 ∷ 18 ∷ []) number
 
 -- what is told beside the number: the name of the link, or nothing, which is 0
 abbrev pub detail : SolveFault → ℕ

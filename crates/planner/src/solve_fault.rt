@@ -1,10 +1,9 @@
 ghost use Rattle.std.specs.Prelude.{◌≡◌, Some};
-ghost use Rattle.planner.specs.SolveFault.{number, detail, text};
+ghost use Rattle.planner.specs.SolveFault.{number, unmeetable, detail, text};
 
 use std::fmt;
 
-/// Why a port is not given a setting. A link is told by its name; `LinkWithoutCandidate` and `NothingWithin` call the port
-/// unmeetable.
+/// Why a port is given no setting. A link is told by its name.
 #[derive(Clone, Copy, Debug, PartialEq, Eq)]
 pub enum SolveFault {
     LinkWithoutFlow { link: u16 },
@@ -29,6 +28,16 @@ impl SolveFault {
             SolveFault::Spent => 17,
             SolveFault::NothingWithin => 18,
         }
+    }
+
+    /// Does the refusal call the port unmeetable?
+    pub fn is_unmeetable(self) -> bool
+        ensures { result ≡ unmeetable (number self) }
+    {
+        matches!(
+            self,
+            SolveFault::LinkWithoutCandidate { .. } | SolveFault::NothingWithin
+        )
     }
 
     /// What the refusal tells beside its number: the name of the link, or 0.
