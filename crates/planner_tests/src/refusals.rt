@@ -1,7 +1,7 @@
-use planner::SettingFault;
+use planner::{SettingFault, SolveFault};
 
 #[test]
-fn numbers_and_details_of_the_refusals(rt: HostRuntime) {
+fn numbers_and_details_of_a_setting_refused(rt: HostRuntime) {
     let faults = [
         (SettingFault::LinkWithoutFlow { link: 65_535 }, 13, 65_535),
         (SettingFault::RowsNotTheLinks, 19, 0),
@@ -13,5 +13,28 @@ fn numbers_and_details_of_the_refusals(rt: HostRuntime) {
     for (fault, number, detail) in faults {
         assert_eq!(rt; fault.number(), number);
         assert_eq!(rt; fault.detail(), detail);
+    }
+}
+
+#[test]
+fn numbers_and_details_of_a_solve_refused(rt: HostRuntime) {
+    let faults = [
+        (
+            SolveFault::LinkWithoutFlow { link: 65_535 },
+            13,
+            65_535,
+            false,
+        ),
+        (SolveFault::AnswerTableTooShort, 14, 0, false),
+        (SolveFault::WorkTableTooShort, 15, 0, false),
+        (SolveFault::LinkWithoutCandidate { link: 0 }, 16, 0, true),
+        (SolveFault::LinkWithoutCandidate { link: 7 }, 16, 7, true),
+        (SolveFault::Spent, 17, 0, false),
+        (SolveFault::NothingWithin, 18, 0, true),
+    ];
+    for (fault, number, detail, unmeetable) in faults {
+        assert_eq!(rt; fault.number(), number);
+        assert_eq!(rt; fault.detail(), detail);
+        assert_eq!(rt; fault.is_unmeetable(), unmeetable);
     }
 }

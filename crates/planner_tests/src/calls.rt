@@ -1,0 +1,159 @@
+//! A list of calls with a last solve.
+use crate::plans::{BEFORE, row};
+use crate::solving::{Work, by_reserve, found};
+use limits::{Limit, Port, PortLimit, Reserve};
+use plan::{Call, Plan};
+use planner::{PlannerCall, Row, SolveCall, SolveFault, Solved, WorkRow, solve_after};
+use std::array;
+use std::test::Fail;
+
+type ReserveCall = PlannerCall<PortLimit, Reserve>;
+
+/// A solve by reserve at a port whose links may reserve all of its rate.
+fn asked(share: u32, allowance: u32) -> Result<SolveCall<PortLimit, Reserve>, Fail> {
+    Ok(SolveCall {
+        limit: Port::new(share, share, 1)?.limit(),
+        measure: Reserve,
+        allowance,
+    })
+}
+
+/// Adds a flow.
+fn add(link: u16, flow: u16, payload: u16, cycle: u16) -> ReserveCall {
+    PlannerCall::Edit(Call::AddFlow {
+        link,
+        flow,
+        payload,
+        cycle,
+    })
+}
+
+/// Performs the calls and then the last, with an answer table of three rows.
+fn performed(
+    calls: &[ReserveCall],
+    last: &SolveCall<PortLimit, Reserve>,
+) -> (Result<Solved<u32>, SolveFault>, [Row; 3]) {
+    let mut answer = [BEFORE; 3];
+    let mut work: [Work<u32>; 4] = array::from_fn(|_| WorkRow::new(last.limit.empty_load(), 77));
+    let told = solve_after(calls, last, &mut answer, &mut work);
+    (told, answer)
+}
+
+#[test]
+fn no_calls(rt: HostRuntime) -> Result<(), Fail> {
+    assert_eq!(rt; performed(&[], &asked(1, 0)?), (found(0, 0), [BEFORE; 3]));
+    Ok(())
+}
+
+/// Two links, with a solve after the first, refused calls between, and a solve that is spent.
+fn mixed_calls() -> Result<[ReserveCall; 13], Fail> {
+    Ok([
+        PlannerCall::Edit(Call::AddLink { name: 1 }),
+        add(1, 1, 200, 80),
+        add(1, 2, 250, 160),
+        PlannerCall::Solve(asked(10_000, 7)?),
+        PlannerCall::Edit(Call::AddLink { name: 2 }),
+        PlannerCall::Edit(Call::AddLink { name: 1 }),
+        PlannerCall::Solve(asked(10_000, 100)?),
+        add(2, 3, 250, 220),
+        add(2, 4, 200, 20),
+        add(2, 4, 1, 128),
+        PlannerCall::Solve(asked(10_000, 35)?),
+        PlannerCall::Edit(Call::Withdraw { flow: 9 }),
+        PlannerCall::Edit(Call::Amend {
+            flow: 4,
+            payload: 200,
+            cycle: 40,
+        }),
+    ])
+}
+
+#[test]
+fn edits_solves_and_refusals(rt: HostRuntime) -> Result<(), Fail> {
+    let calls = mixed_calls()?;
+    let alone = row(1, 32, 200);
+    let both = [row(1, 16, 67), row(2, 32, 250), BEFORE];
+    // the link that has no flow yet refuses the second solve, and 36 visits the third
+    for (count, share, allowance, told, rows) in [
+        (3, 10_000, 6, found(1068, 6), [alone, BEFORE, BEFORE]),
+        (
+            5,
+            10_000,
+            42,
+            Err(SolveFault::LinkWithoutFlow { link: 2 }),
+            [alone, BEFORE, BEFORE],
+        ),
+        (
+            12,
+            10_000,
+            36,
+            found(3204, 36),
+            [alone, row(2, 16, 200), BEFORE],
+        ),
+        (13, 10_000, 42, found(2340, 42), both),
+        (
+            13,
+            10_000,
+            41,
+            Err(SolveFault::Spent),
+            [alone, BEFORE, BEFORE],
+        ),
+        (
+            13,
+            1000,
+            6,
+            Err(SolveFault::NothingWithin),
+            [alone, BEFORE, BEFORE],
+        ),
+    ] {
+        assert_eq!(rt;
+            performed(&calls[..count], &asked(share, allowance)?),
+            (told, rows),
+            "after {count} calls at {share} of {allowance}"
+        );
+    }
+    Ok(())
+}
+
+// The tables still hold what the solve before the amendment left.
+#[test]
+fn a_solve_after_an_amendment_in_the_same_tables(rt: HostRuntime) -> Result<(), Fail> {
+    let [first, second, third, _, fifth, _, _, eighth, ninth, ..] = mixed_calls()?;
+    let calls = [
+        first,
+        second,
+        third,
+        fifth,
+        eighth,
+        ninth,
+        PlannerCall::Solve(asked(10_000, 36)?),
+        PlannerCall::Edit(Call::Amend {
+            flow: 4,
+            payload: 200,
+            cycle: 40,
+        }),
+    ];
+    assert_eq!(rt;
+        performed(&calls, &asked(10_000, 42)?),
+        (found(2340, 42), [row(1, 16, 67), row(2, 32, 250), BEFORE])
+    );
+    Ok(())
+}
+
+// The call on the list does what the calls do that are made one at a time.
+#[test]
+fn as_one_call_at_a_time(rt: HostRuntime) -> Result<(), Fail> {
+    let calls = mixed_calls()?;
+    let last = asked(10_000, 42)?;
+    let mut plan = Plan::open();
+    for (count, call) in calls.iter().enumerate() {
+        let mut answer = [BEFORE; 3];
+        let told = by_reserve(&plan, Port::new(10_000, 10_000, 1)?, 42, &mut answer);
+        let (told_of_list, _) = performed(&calls[..count], &last);
+        assert_eq!(rt; told, told_of_list, "after {count} calls");
+        if let PlannerCall::Edit(edit) = call {
+            let _ = plan.perform(*edit);
+        }
+    }
+    Ok(())
+}
