@@ -1,5 +1,5 @@
 use crate::frames::frames_of_link;
-use crate::notes::{print_accepted, print_refused};
+use crate::notes::{print_accepted, print_refused, print_rows};
 use limits::{Burst, Port, UNITS_PER_KBIT, total_of_pairs};
 use plan::Plan;
 use planner::{Row, SettingFault, check_port_setting};
@@ -12,12 +12,7 @@ pub(crate) fn print_check(
     port: Port,
     rows: &[Row; 2],
 ) -> io::Result<()> {
-    for row in rows {
-        println!(rt;
-            "   link {}: gap {} ms, MTU {} bytes",
-            row.link, row.pair.gap, row.pair.mtu
-        )?;
-    }
+    print_rows(rt, rows)?;
     match check_port_setting(plan, port, rows) {
         Ok(()) => {
             print_accepted(rt)?;
@@ -81,7 +76,7 @@ fn print_frames(rt: &impl Print, plan: &Plan, row: &Row) -> io::Result<()> {
 }
 
 /// Says what a setting takes of the port, and what the port has.
-fn print_use(rt: &impl Print, port: Port, rows: &[Row; 2]) -> io::Result<()> {
+pub(crate) fn print_use(rt: &impl Print, port: Port, rows: &[Row; 2]) -> io::Result<()> {
     let Some(total) = total_of_pairs(&Burst, &rows.map(|row| row.pair)) else {
         return Ok(());
     };

@@ -8,15 +8,17 @@ mod offer;
 mod order_book;
 mod port;
 mod settings;
+mod solve;
 
 use check::print_check;
-use limits::GAP_COUNT;
+use limits::{GAP_COUNT, Port};
 use notes::{print_answer, print_call, print_standing};
 use offer::print_pairs;
 use order_book::ORDER_BOOK;
 use plan::Plan;
 use port::make_port;
 use settings::settings;
+use solve::{print_solve, print_solve_after};
 use std::io;
 
 fn main(rt: HostRuntime) -> io::Result<()> {
@@ -39,7 +41,11 @@ fn main(rt: HostRuntime) -> io::Result<()> {
     print_standing(&rt, &replayed)?;
     ask_pairs(&rt, &replayed, 5, 7)?;
     ask_pairs(&rt, &replayed, 6, 9)?;
-    check_settings(&rt, &replayed)
+    let Some(port) = make_ports(&rt)? else {
+        return Ok(());
+    };
+    check_settings(&rt, &replayed, port)?;
+    ask_settings(&rt, &replayed, port)
 }
 
 /// Asks for the pairs of a link, and says what is offered.
@@ -52,13 +58,15 @@ fn ask_pairs(rt: &impl Print, plan: &Plan, step: u8, link: u16) -> io::Result<()
     print_pairs(rt, plan, link, &place)
 }
 
-/// Makes the port, and checks settings that were made elsewhere.
-fn check_settings(rt: &impl Print, plan: &Plan) -> io::Result<()> {
+/// Makes the port, once with a slip in its figures.
+fn make_ports(rt: &impl Print) -> io::Result<Option<Port>> {
     println!(rt; "7. Make the port. Its figures are checked first.")?;
     let _ = make_port(rt, 10_000, 10_001, 4)?;
-    let Some(port) = make_port(rt, 10_000, 401, 4)? else {
-        return Ok(());
-    };
+    make_port(rt, 10_000, 401, 4)
+}
+
+/// Checks settings that were made elsewhere.
+fn check_settings(rt: &impl Print, plan: &Plan, port: Port) -> io::Result<()> {
     println!(rt;
         "8. Check a setting that was made elsewhere, as it is and with a slip of one byte."
     )?;
@@ -67,4 +75,24 @@ fn check_settings(rt: &impl Print, plan: &Plan) -> io::Result<()> {
         print_check(rt, plan, port, &setting.rows)?;
     }
     Ok(())
+}
+
+/// Asks for the setting that reserves least, at the port and at slower ones.
+fn ask_settings(rt: &impl Print, plan: &Plan, port: Port) -> io::Result<()> {
+    println!(rt;
+        "9. Ask for the setting that reserves least. The search may try only so many beginnings of settings: its visits."
+    )?;
+    for allowance in [8, 9] {
+        print_solve(rt, plan, port, allowance)?;
+    }
+    println!(rt; "10. Ask what the port could do at lower rates, with the same share and floor.")?;
+    for rate in [7548, 7547, 5235, 5234] {
+        if let Some(slower) = make_port(rt, rate, port.share(), port.floor())? {
+            print_solve(rt, plan, slower, 9)?;
+        }
+    }
+    println!(rt;
+        "11. Do it all in one call: the order book, from an empty plan, and then the solve. The same is offered."
+    )?;
+    print_solve_after(rt, ORDER_BOOK, port, 9)
 }

@@ -1,4 +1,5 @@
 use plan::{Call, Plan, PlanFault};
+use planner::Row;
 use std::{fmt, io};
 
 /// Says what is called.
@@ -41,6 +42,17 @@ pub(crate) fn print_refused(
     words: &impl fmt::Display,
 ) -> io::Result<()> {
     println!(rt; "   refused, {number} {detail}: {words}")
+}
+
+/// Says which pair each row gives its link.
+pub(crate) fn print_rows(rt: &impl Print, rows: &[Row; 2]) -> io::Result<()> {
+    for row in rows {
+        println!(rt;
+            "   link {}: gap {} ms, MTU {} bytes",
+            row.link, row.pair.gap, row.pair.mtu
+        )?;
+    }
+    Ok(())
 }
 
 /// Says what stands in the plan.
