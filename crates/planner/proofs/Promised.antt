@@ -1,5 +1,5 @@
 -- What is promised of a solve follows from how it ends.
-use Rattle.std.proofs.Common.{◌≡◌, ℕ, if◌then◌else◌, ◌==◌, Bool, true, false, not, ◌||◌, leb, ltb, List, [], ◌∷◌, ◌++◌, length, take, drop, Some, None, Option, refl, sym, ap, ap₂, ◌∙◌, subst, inl, inr, arith}
+use Rattle.std.proofs.Common.{◌≡◌, ℕ, if◌then◌else◌, ◌==◌, Bool, true, false, not, ◌||◌, leb, ltb, List, [], ◌∷◌, length, drop, Some, None, Option, refl, sym, ap, ap₂, ◌∙◌, subst, inl, inr, arith}
 use Rattle.std.specs.List.{list_any, find}
 use Rattle.std.specs.Option.{is_none, is_some}
 use Rattle.std.proofs.lemmas.Bool.{both_ways, false≢true, cases_Bool, cond-true, cond-false}
@@ -13,14 +13,15 @@ use Rattle.planner.specs.declared.row.Row.{Row}
 use Rattle.planner.specs.declared.solved.Solved.{Solved}
 use Rattle.planner.specs.Asked.{refusal}
 use Rattle.planner.specs.Choice.{Choice, link_candidates, first_without_candidate}
-use Rattle.planner.specs.Ending.{Ending, rows_of, report_of, ending_with, ending}
+use Rattle.planner.specs.Ending.{Ending, report_of, ending_with, ending}
 use Rattle.planner.specs.Exchange.{LeastOfAll}
 use Rattle.planner.specs.Named.{Aim, no_more, admitted, least, visits, named}
 use Rattle.planner.specs.Promise.{well_posed, NoChoiceWithin, LeastChoice, Promised}
 use Rattle.planner.specs.Selections.{complete}
-use Rattle.planner.specs.Setting.{plainly, pairs}
+use Rattle.planner.specs.Setting.{plainly}
 use Rattle.planner.proofs.Choices.{choice_raised, complete_choices, choice_long, no_choice}
 use Rattle.planner.proofs.Members.{In, all_in, in_kept, any_in, any_found}
+use Rattle.planner.proofs.Rows.{rows_back, pairs_back}
 
 -- what is found stands in the list
 found_in : {X : Type 0} (test : X → Bool) (xs : List X) (x : X) → find test xs ≡ Some x → In x xs
@@ -30,25 +31,6 @@ found_in test (y ∷ ys) x e =
       | inl yes' ↦ inl (sym (same_Some y x (sym (cond-true (test y) (Some y) (find test ys) yes') ∙ e)))
       | inr no' ↦ inr (found_in test ys x (sym (cond-false (test y) (Some y) (find test ys) no') ∙ e))
     ]
-
-exceeds : (v n : ℕ) → leb v n ≡ false → ltb n v ≡ true
-exceeds v n e = grind (arith, e)
-
-keeps : (v n : ℕ) → leb v n ≡ true → ltb n v ≡ false
-keeps v n e = grind (arith, e)
-
--- the rows of a setting give its pairs back
-pairs_of_rows : (links : List ℕ) (s : List Pair) (old : List Row) → length s ≡ length links → pairs (take (length links) (rows_of links s ++ old)) ≡ s
-pairs_of_rows [] [] old long = refl
-pairs_of_rows [] (p ∷ s) old long = absurd (omega (arith, long))
-pairs_of_rows (link ∷ links) [] old long = absurd (omega (arith, long))
-pairs_of_rows (link ∷ links) (p ∷ s) old long = ap (λ ps. p ∷ ps) (pairs_of_rows links s old (omega (arith, long)))
-
-rows_back : (links : List ℕ) (s : List Pair) (old : List Row) → length s ≡ length links → take (length links) (rows_of links s ++ old) ≡ rows_of links s
-rows_back [] [] old long = refl
-rows_back [] (p ∷ s) old long = absurd (omega (arith, long))
-rows_back (link ∷ links) [] old long = absurd (omega (arith, long))
-rows_back (link ∷ links) (p ∷ s) old long = ap (λ rows. record { link = link; pair = p } ∷ rows) (rows_back links s old (omega (arith, long)))
 
 module _ {T : Type 0} (a : Aim T) (st : Standing) (others : LeastOfAll a (link_candidates eight_gaps st)) where
   abbrev cs : List (List Pair)
@@ -131,7 +113,7 @@ module _ {T : Type 0} (a : Aim T) (st : Standing) (others : LeastOfAll a (link_c
     too_many e many o = record {
       unmeetable = λ _ h. absurd (both_ways _ (ap₂ (λ b c. b || not (is_none c)) many e) h);
       least = λ r h. absurd (none-some r h);
-      spent = λ _ _. sym (exceeds (visits a cs) allowance many);
+      spent = λ _ _. grind (arith, many);
       counted = λ r h. absurd (none-some r h);
       setting = λ _ _ _ h. absurd (both_ways true h refl);
     }
@@ -140,7 +122,7 @@ module _ {T : Type 0} (a : Aim T) (st : Standing) (others : LeastOfAll a (link_c
     none_found e few n = record {
       unmeetable = λ _ _. (λ _. none_within n, λ _. refl);
       least = λ r h. absurd (none-some r h);
-      spent = λ _ _. sym (keeps (visits a cs) allowance few);
+      spent = λ _ _. grind (arith, few);
       counted = λ r h. absurd (none-some r h);
       setting = λ _ _ h _. absurd (both_ways true h refl);
     }
@@ -151,10 +133,10 @@ module _ {T : Type 0} (a : Aim T) (st : Standing) (others : LeastOfAll a (link_c
         let rest = drop (length st.links) old in
         let same : (r : Solved T) → Some (report_of a cs s) ≡ Some r → report_of a cs s ≡ r = λ r h. same_Some (report_of a cs s) r h in record {
           unmeetable = λ _ _. (λ h. absurd (false≢true h), λ none. absurd (both_ways (a.within s) (none s (choice_named s n)) (admitted_named s n).1));
-          least = λ r h. rw (pairs_of_rows st.links s rest long) (subst (λ q. LeastChoice eight_gaps a st s q.total) (same r h) (least_named s n));
-          spent = λ _ _. sym (keeps (visits a cs) allowance few);
+          least = λ r h. rw (pairs_back st.links s long rest) (subst (λ q. LeastChoice eight_gaps a st s q.total) (same r h) (least_named s n));
+          spent = λ _ _. grind (arith, few);
           counted = λ r h. ap (λ q. q.visits) (sym (same r h));
-          setting = λ _ _ _ _. (s, n, rows_back st.links s rest long);
+          setting = λ _ _ _ _. (s, n, rows_back st.links s long rest);
         }
 
     by_answers : (flow : Option ℕ) (answers works : Bool) (candidate : Option ℕ) (fit : Bool) (o : Option (List Pair)) → first_without_candidate eight_gaps st ≡ candidate → leb (visits a cs) allowance ≡ fit → named a cs ≡ o → Holds (ends flow answers works candidate fit o)

@@ -2,8 +2,8 @@
 -- one of its gap and of no greater MTU.
 use Rattle.std.proofs.Common.{◌≡◌, ℕ, ◌<◌, ◌≤◌, Bool, true, false, ◌&&◌, leb, eqb, List, [], ◌∷◌, Some, None, Option, refl, ap, ◌∙◌, subst, inl, inr, arith, rules}
 use Rattle.std.specs.List.{AllByRecursion, list_all, list_any, cons_option}
-use Rattle.std.specs.Option.{is_none}
-use Rattle.std.proofs.ByRecursion.{All-weaker}
+use Rattle.std.specs.Option.{is_none, IfSome}
+use Rattle.std.proofs.ByRecursion.{All-weaker, All-map}
 use Rattle.std.proofs.lemmas.Bool.{both_ways, and_parts, and_from, eq-eqb, eqb-true, le-leb, or_cases, false≢true}
 use Rattle.limits.specs.declared.pair.Pair.{Pair}
 use Rattle.limits.specs.Every.{all_from_every}
@@ -24,33 +24,24 @@ use Rattle.planner.proofs.Members.{In, any_in}
 abbrev pub fits : List Flow → Pair → Bool
 fits fs p = lawful eight_gaps p && meets fs p.gap p.mtu
 
--- what holds of the candidate at a gap, if there is one
-abbrev IfAny : (Pair → Type 0) → Option Pair → Type 0
-IfAny P None = Unit {0}
-IfAny P (Some p) = P p
-
-present_all : (P : Pair → Type 0) (os : List (Option Pair)) → AllByRecursion (IfAny P) os → AllByRecursion P (present os)
+-- what holds of each candidate that there is holds of all that a row holds
+present_all : (P : Pair → Type 0) (os : List (Option Pair)) → AllByRecursion (λ o. IfSome o P) os → AllByRecursion P (present os)
 present_all P [] h = tt
 present_all P (None ∷ os) h = present_all P os h.1
 present_all P (Some p ∷ os) h = (h.0, present_all P os h.1)
 
 module _ (fs : List Flow) where
   -- what holds of the candidate at each gap holds of those that a row holds
-  all_present : (P : Pair → Type 0) (gaps : List ℕ) → AllByRecursion (λ g. IfAny P (candidate fs g)) gaps → AllByRecursion P (present (candidates gaps fs))
-  all_present P [] h = tt
-  all_present P (g ∷ gaps) h = put P (candidate fs g) (present (candidates gaps fs)) h.0 (all_present P gaps h.1)
-    where
-      put : (P : Pair → Type 0) (o : Option Pair) (ps : List Pair) → IfAny P o → AllByRecursion P ps → AllByRecursion P (cons_option o ps)
-      put P None ps h rest = rest
-      put P (Some p) ps h rest = (h, rest)
+  all_present : (P : Pair → Type 0) (gaps : List ℕ) → AllByRecursion (λ g. IfSome (candidate fs g) P) gaps → AllByRecursion P (present (candidates gaps fs))
+  all_present P gaps h = present_all P (candidates gaps fs) (All-map (λ o. IfSome o P) (candidate fs) gaps h)
 
   -- a candidate serves the flows
-  fits_at : (g : ℕ) → among eight_gaps g ≡ true → (o : Option Pair) → LeastAt fs g o → IfAny (λ p. fits fs p ≡ true) o
+  fits_at : (g : ℕ) → among eight_gaps g ≡ true → (o : Option Pair) → LeastAt fs g o → IfSome o (λ p. fits fs p ≡ true)
   fits_at g e None least = tt
   fits_at g e (Some p) least = and_from (lawful eight_gaps p) (meets fs p.gap p.mtu) (lawful_least eight_gaps fs g (Some p) e least) (ap (λ x. meets fs x p.mtu) least.0 ∙ least.3)
 
   pub all_fit : AllByRecursion (λ p. fits fs p ≡ true) (present (candidates eight_gaps fs))
-  all_fit = all_present (λ p. fits fs p ≡ true) eight_gaps (All-weaker (λ g. among eight_gaps g ≡ true) (λ g. IfAny (λ p. fits fs p ≡ true) (candidate fs g)) (λ g e. fits_at g e (candidate fs g) (candidate_least fs g)) eight_gaps (all_from_every (among eight_gaps) eight_gaps refl))
+  all_fit = all_present (λ p. fits fs p ≡ true) eight_gaps (All-weaker (λ g. among eight_gaps g ≡ true) (λ g. IfSome (candidate fs g) (λ p. fits fs p ≡ true)) (λ g e. fits_at g e (candidate fs g) (candidate_least fs g)) eight_gaps (all_from_every (among eight_gaps) eight_gaps refl))
 
   pub all_lawful : AllByRecursion Lawful (present (candidates eight_gaps fs))
   all_lawful = All-weaker (λ p. fits fs p ≡ true) Lawful (λ p e. (and_parts (lawful eight_gaps p) (meets fs p.gap p.mtu) e).0) (present (candidates eight_gaps fs)) all_fit
@@ -60,14 +51,14 @@ module _ (fs : List Flow) where
   Up [] = Unit {0}
   Up (g ∷ gaps) = AllByRecursion (λ h. g < h) gaps × Up gaps
 
-  above_at : (p : Pair) (g : ℕ) → p.gap < g → (o : Option Pair) → LeastAt fs g o → IfAny (λ q. p.gap < q.gap) o
+  above_at : (p : Pair) (g : ℕ) → p.gap < g → (o : Option Pair) → LeastAt fs g o → IfSome o (λ q. p.gap < q.gap)
   above_at p g lt None least = tt
   above_at p g lt (Some q) least = omega (arith, least.0)
 
   rising_at : (g : ℕ) (gaps : List ℕ) → AllByRecursion (λ h. g < h) gaps → (o : Option Pair) → LeastAt fs g o → Rising (present (candidates gaps fs)) → Rising (cons_option o (present (candidates gaps fs)))
   rising_at g gaps up None least rest = rest
   rising_at g gaps up (Some p) least rest = (
-    all_present (λ q. p.gap < q.gap) gaps (All-weaker (λ h. g < h) (λ h. IfAny (λ q. p.gap < q.gap) (candidate fs h)) (λ h lt. above_at p h (omega (arith, least.0)) (candidate fs h) (candidate_least fs h)) gaps up),
+    all_present (λ q. p.gap < q.gap) gaps (All-weaker (λ h. g < h) (λ h. IfSome (candidate fs h) (λ q. p.gap < q.gap)) (λ h lt. above_at p h (omega (arith, least.0)) (candidate fs h) (candidate_least fs h)) gaps up),
     rest,
   )
 

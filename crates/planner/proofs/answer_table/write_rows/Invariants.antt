@@ -3,4 +3,4 @@ use Rattle.planner.specs.Ending.{rows_of}
 use Rattle.planner.proofs.answer_table.write_rows.Given as goal
 
 abbrev pub invariant-loop-place : goal.invariant-loop-place
-invariant-loop-place l = l.answer ≡ rows_of (take l.place l.links) l.setting ++ drop l.place l.fn.answer
+invariant-loop-place l = l.answer ≡ take l.place (rows_of l.links l.setting) ++ drop l.place l.fn.answer
