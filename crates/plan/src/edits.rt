@@ -2,7 +2,6 @@ ghost use Rattle.std.specs.Prelude.{◌≡◌};
 ghost use Rattle.plan.specs.Fault.{told, told_detail};
 ghost use Rattle.plan.specs.Held.{standing};
 ghost use Rattle.plan.specs.History.{Edit, OneFurther};
-
 ghost use Rattle.plan.specs.declared.call.Call.TheVariants.{AddLink, AddFlow, Amend, Withdraw};
 ghost use Rattle.plan.specs.Ledger.{answer, after};
 ghost use Rattle.plan.specs.Standing.{nothing};

@@ -46,7 +46,7 @@ fn pairs_of_one_link_alone(rt: HostRuntime) -> Result<(), Fail> {
     Ok(())
 }
 
-// Without its questions: a link that stands has its candidates, and one without flows or of no name the least MTU at every gap.
+// Without its questions: a link that stands has its candidates, and one that has no flow or does not stand MTU 1 at every gap.
 #[test]
 fn candidates_without_questions(rt: HostRuntime) -> Result<(), Fail> {
     let mut plan = with_link()?;

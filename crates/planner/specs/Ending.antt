@@ -27,8 +27,8 @@ pub record Ending (T : Type 0) : Type 0 where
 abbrev pub ended : {T : Type 0} → Result (Solved T) SolveFault → List Row → Ending T
 ended r rows = record { refusal = told r; report = result_ok r; rows = rows }
 
--- what a solve is asked: has every link a flow, has the answer table a row for each link, has the work table one row more, has
--- every link a candidate, are the visits at most the allowance, and is some complete selection within the limit?
+-- what a solve is asked: has every link a flow, has the answer table a row for each link, has the work table more rows than there
+-- are links, has every link a candidate, are the visits at most the allowance, and is some complete selection within the limit?
 abbrev pub solve_questions : {T : Type 0} → List ℕ → Aim T → Standing → ℕ → ℕ → ℕ → Asked
 solve_questions gaps a st allowance answer_rows work_rows =
     (13, first_without_flow st)

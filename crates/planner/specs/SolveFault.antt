@@ -31,10 +31,10 @@ detail NothingWithin = 0
 unfoldable pub text : SolveFault → List ℕ
 text (LinkWithoutFlow link) = codes "a link has no flow"
 text AnswerTableTooShort = codes "the answer table has fewer rows than there are links"
-text WorkTableTooShort = codes "the work table has no row more than there are links"
+text WorkTableTooShort = codes "the work table has no more rows than there are links"
 text (LinkWithoutCandidate link) = codes "no pair serves the flows of a link"
 text Spent = codes "the visits are more than the allowance"
-text NothingWithin = codes "no setting is within the limit"
+text NothingWithin = codes "no setting that serves the links is within the limit"
 
 -- what a call told: 0 and 0 where it was accepted, else the number and the detail of its refusal
 abbrev pub told : {X : Type 0} → Result X SolveFault → ℕ × ℕ

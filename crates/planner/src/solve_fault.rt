@@ -3,7 +3,7 @@ ghost use Rattle.planner.specs.SolveFault.{number, unmeetable, detail, text};
 
 use std::fmt;
 
-/// Why a port is given no setting. A link is told by its name.
+/// Why a solve is refused. A link is told by its name.
 #[derive(Clone, Copy, Debug, PartialEq, Eq)]
 pub enum SolveFault {
     LinkWithoutFlow { link: u16 },
@@ -65,10 +65,10 @@ impl SolveFault {
             SolveFault::LinkWithoutFlow { .. } => "a link has no flow",
             SolveFault::AnswerTableTooShort =>
                 "the answer table has fewer rows than there are links",
-            SolveFault::WorkTableTooShort => "the work table has no row more than there are links",
+            SolveFault::WorkTableTooShort => "the work table has no more rows than there are links",
             SolveFault::LinkWithoutCandidate { .. } => "no pair serves the flows of a link",
             SolveFault::Spent => "the visits are more than the allowance",
-            SolveFault::NothingWithin => "no setting is within the limit",
+            SolveFault::NothingWithin => "no setting that serves the links is within the limit",
         }
     }
 }

@@ -23,9 +23,9 @@ use plan::Plan;
 /// The candidates of the links in plan order, each with a place for each gap.
 type Table = ArrayVec<[Option<Pair>; GAP_COUNT], MAX_PAIRS>;
 
-/// Gives each link of the plan a pair: of the choices within the limit, the named one that totals least by the measure. Its
-/// rows go into the answer table from the first on. It is refused where the search would take more visits than the allowance.
-/// Both tables may hold anything before, and the work table afterwards; it needs a row more than there are links.
+/// Gives each link of the plan a pair: the named setting, which the measure totals least of all choices within the limit. Its
+/// rows go into the answer table from the first on. Both tables may hold anything before, and the work table afterwards; the
+/// answer table needs a row for each link, and the work table one more.
 pub fn solve<L: Limit, M: Measure>(
     plan: &Plan,
     limit: &L,

@@ -1,7 +1,7 @@
 //! A list of calls with a last solve.
 use crate::plans::{BEFORE, row};
 use crate::solving::{Work, by_reserve, found};
-use limits::{Limit, Port, PortLimit, Reserve};
+use limits::{Burst, BurstTotal, Floor, Limit, Port, PortLimit, Reserve};
 use plan::{Call, Plan};
 use planner::{PlannerCall, Row, SolveCall, SolveFault, Solved, WorkRow, solve_after};
 use std::array;
@@ -73,7 +73,7 @@ fn edits_solves_and_refusals(rt: HostRuntime) -> Result<(), Fail> {
     let calls = mixed_calls()?;
     let alone = row(1, 32, 200);
     let both = [row(1, 16, 67), row(2, 32, 250), BEFORE];
-    // the link that has no flow yet refuses the second solve, and 36 visits the third
+    // the second solve of the list is refused since link 2 has no flow, and the third since it takes 36 visits
     for (count, share, allowance, told, rows) in [
         (3, 10_000, 6, found(1068, 6), [alone, BEFORE, BEFORE]),
         (
@@ -140,20 +140,136 @@ fn a_solve_after_an_amendment_in_the_same_tables(rt: HostRuntime) -> Result<(), 
     Ok(())
 }
 
-// The call on the list does what the calls do that are made one at a time.
+// The list does what the calls do that are made one at a time, with one answer table: tried after each of them.
 #[test]
 fn as_one_call_at_a_time(rt: HostRuntime) -> Result<(), Fail> {
     let calls = mixed_calls()?;
     let last = asked(10_000, 42)?;
     let mut plan = Plan::open();
-    for (count, call) in calls.iter().enumerate() {
-        let mut answer = [BEFORE; 3];
-        let told = by_reserve(&plan, Port::new(10_000, 10_000, 1)?, 42, &mut answer);
-        let (told_of_list, _) = performed(&calls[..count], &last);
-        assert_eq!(rt; told, told_of_list, "after {count} calls");
-        if let PlannerCall::Edit(edit) = call {
-            let _ = plan.perform(*edit);
+    let mut answer = [BEFORE; 3];
+    for count in 0..=calls.len() {
+        let mut rows = answer;
+        let told = by_reserve(&plan, Port::new(10_000, 10_000, 1)?, 42, &mut rows);
+        assert_eq!(rt;
+            (told, rows),
+            performed(&calls[..count], &last),
+            "after {count} calls"
+        );
+        match calls.get(count) {
+            Some(PlannerCall::Edit(edit)) => {
+                let _ = plan.perform(*edit);
+            }
+            Some(PlannerCall::Solve(solve)) => {
+                let port = Port::new(10_000, 10_000, 1)?;
+                let _ = by_reserve(&plan, port, solve.allowance, &mut answer);
+            }
+            None => {}
         }
+    }
+    Ok(())
+}
+
+// The plan outgrows the tables after a solve that fitted into them.
+#[test]
+fn a_last_solve_in_tables_that_are_too_short(rt: HostRuntime) -> Result<(), Fail> {
+    let calls = mixed_calls()?;
+    let last = asked(10_000, 42)?;
+    let alone = row(1, 32, 200);
+    let mut answer = [BEFORE; 2];
+    let mut work: [Work<u32>; 3] = array::from_fn(|_| WorkRow::new(last.limit.empty_load(), 77));
+    assert_eq!(rt;
+        solve_after(&calls, &last, &mut answer[..1], &mut work),
+        Err(SolveFault::AnswerTableTooShort)
+    );
+    assert_eq!(rt; answer, [alone, BEFORE]);
+    answer = [BEFORE; 2];
+    assert_eq!(rt;
+        solve_after(&calls, &last, &mut answer, &mut work[..2]),
+        Err(SolveFault::WorkTableTooShort)
+    );
+    assert_eq!(rt; answer, [alone, BEFORE]);
+    assert_eq!(rt;
+        solve_after(&calls, &last, &mut answer, &mut work),
+        found(2340, 42)
+    );
+    assert_eq!(rt; answer, [row(1, 16, 67), row(2, 32, 250)]);
+    Ok(())
+}
+
+// By burst, under a floor that is another for each solve: a withdrawal, and then an amendment that leaves no candidate.
+#[test]
+fn solves_under_limits_of_their_own(rt: HostRuntime) -> Result<(), Fail> {
+    let at = |gap| SolveCall {
+        limit: Floor { gap },
+        measure: Burst,
+        allowance: u32::MAX,
+    };
+    let calls = [
+        PlannerCall::Edit(Call::AddLink { name: 1 }),
+        PlannerCall::Edit(Call::AddFlow {
+            link: 1,
+            flow: 1,
+            payload: 80,
+            cycle: 10,
+        }),
+        PlannerCall::Edit(Call::AddFlow {
+            link: 1,
+            flow: 2,
+            payload: 100,
+            cycle: 12,
+        }),
+        PlannerCall::Solve(at(4)),
+        PlannerCall::Edit(Call::Withdraw { flow: 2 }),
+        PlannerCall::Edit(Call::Amend {
+            flow: 1,
+            payload: 8192,
+            cycle: 5,
+        }),
+    ];
+    let total = BurstTotal { bytes: 0, units: 0 };
+    let mut work: [WorkRow<bool, BurstTotal>; 2] = array::from_fn(|_| WorkRow::new(true, total));
+    for (count, gap, told, first) in [
+        (
+            3,
+            2,
+            found(
+                BurstTotal {
+                    bytes: 107,
+                    units: 6848,
+                },
+                3,
+            ),
+            row(1, 2, 40),
+        ),
+        (4, 8, Err(SolveFault::NothingWithin), row(1, 4, 100)),
+        (
+            5,
+            8,
+            found(
+                BurstTotal {
+                    bytes: 147,
+                    units: 2352,
+                },
+                4,
+            ),
+            row(1, 8, 80),
+        ),
+        (
+            6,
+            1,
+            Err(SolveFault::LinkWithoutCandidate { link: 1 }),
+            row(1, 4, 100),
+        ),
+    ] {
+        let mut answer = [BEFORE];
+        assert_eq!(rt;
+            (
+                solve_after(&calls[..count], &at(gap), &mut answer, &mut work),
+                answer
+            ),
+            (told, [first]),
+            "after {count} calls"
+        );
     }
     Ok(())
 }

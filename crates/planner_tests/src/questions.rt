@@ -92,10 +92,11 @@ fn work_tables_of_a_row_more_than_links_or_fewer(rt: HostRuntime) -> Result<(), 
     Ok(())
 }
 
-// The first link in plan order is told. It is told before the visits are counted, so that no allowance is too small.
+// The first link in plan order is told. It is told before the visits are counted, so that no allowance is too small, and before
+// anything is asked of the limit: this port admits nothing. A link without a flow is told first.
 #[test]
 fn links_without_a_candidate(rt: HostRuntime) -> Result<(), Fail> {
-    let port = Port::new(10_000, 10_000, 1)?;
+    let port = Port::new(1, 1, 128)?;
     let mut plan = two_links()?;
     plan.add_link(0)?;
     plan.add_flow(0, 9, 8192, 5)?;
@@ -109,11 +110,16 @@ fn links_without_a_candidate(rt: HostRuntime) -> Result<(), Fail> {
         by_burst(&plan, port, 0, &mut answer),
         Err(SolveFault::LinkWithoutCandidate { link: 2 })
     );
+    plan.add_link(5)?;
+    assert_eq!(rt;
+        by_reserve(&plan, port, 0, &mut answer),
+        Err(SolveFault::LinkWithoutFlow { link: 5 })
+    );
     assert_eq!(rt; answer, [BEFORE; 3]);
     Ok(())
 }
 
-// Which is asked first: a port that nothing is within is told so only where the visits fit the allowance.
+// The visits are asked about before the limit: a port that nothing is within is told so only where they fit the allowance.
 #[test]
 fn visits_at_the_allowance_and_above(rt: HostRuntime) -> Result<(), Fail> {
     let plan = two_links()?;
@@ -167,8 +173,8 @@ fn an_empty_plan(rt: HostRuntime) -> Result<(), Fail> {
     Ok(())
 }
 
-// Every gap from 1 to 128 serves one byte every 128 ms, and the floor leaves the last: eight visits a link. 64 frames of 68 bytes
-// are 4,352 bytes, each every 128 ms, and so many units.
+// Every gap from 1 to 128 serves one byte every 128 ms, and the floor leaves the last: eight visits a link. At a gap of 128 ms a
+// frame of 68 bytes reserves 68 units, so 64 of them reserve 4,352.
 #[test]
 fn as_many_links_as_there_may_be(rt: HostRuntime) -> Result<(), Fail> {
     let limit = Port::new(100_000, 100_000, 128)?.limit();

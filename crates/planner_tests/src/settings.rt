@@ -1,8 +1,8 @@
 //! Worked ports: which setting a solve returns, what it totals, and how many visits it takes.
 use crate::plans::{BEFORE, one_flow, one_link, row, three_links, two_links};
 use crate::solving::{by_burst, by_reserve, found};
-use limits::{BurstTotal, Floor, Open, Port, Reserve};
-use planner::{SolveFault, WorkRow, check_port_setting, solve};
+use limits::{BurstTotal, Floor, Jitter, Layer, Limit, Open, Port, Reserve, Share};
+use planner::{SettingFault, SolveFault, WorkRow, check_port_setting, solve};
 use std::array;
 use std::test::Fail;
 
@@ -189,18 +189,32 @@ fn rows_in_plan_order(rt: HostRuntime) -> Result<(), Fail> {
     Ok(())
 }
 
-// Under other limits than a port's: without any, each link has its cheapest pair.
+// 201 bytes every 3 ms need 134 bytes of a frame every 1 ms or 268 every 2 ms, which reserve the same.
+#[test]
+fn of_equal_totals_the_first(rt: HostRuntime) -> Result<(), Fail> {
+    let plan = one_flow(201, 3)?;
+    let mut answer = [BEFORE];
+    for (floor, first) in [(1, row(7, 1, 67)), (2, row(7, 2, 201))] {
+        let port = Port::new(100_000, 100_000, floor)?;
+        assert_eq!(rt; by_reserve(&plan, port, 2, &mut answer), found(17_152, 2));
+        assert_eq!(rt; answer, [first], "from {floor}");
+    }
+    Ok(())
+}
+
+// Without a limit each link has its cheapest pair. A floor alone, and the layers of a port the other way round, admit what they
+// do elsewhere.
 #[test]
 fn under_other_limits(rt: HostRuntime) -> Result<(), Fail> {
     let plan = two_links()?;
     let mut answer = [BEFORE; 2];
-    let mut open: [WorkRow<(), u32>; 3] = array::from_fn(|_| WorkRow::new((), 0));
+    let mut open: [WorkRow<_, _>; 3] = array::from_fn(|_| WorkRow::new((), 0));
     assert_eq!(rt;
         solve(&plan, &Open, &Reserve, 42, &mut answer, &mut open),
         found(2336, 42)
     );
     assert_eq!(rt; answer, [row(1, 32, 200), row(2, 32, 250)]);
-    let mut floor: [WorkRow<bool, u32>; 3] = array::from_fn(|_| WorkRow::new(true, 0));
+    let mut floor: [WorkRow<_, _>; 3] = array::from_fn(|_| WorkRow::new(true, 0));
     for (gap, told) in [(32, found(2336, 12)), (33, Err(SolveFault::NothingWithin))] {
         assert_eq!(rt;
             solve(&plan, &Floor { gap }, &Reserve, 12, &mut answer, &mut floor),
@@ -208,5 +222,33 @@ fn under_other_limits(rt: HostRuntime) -> Result<(), Fail> {
             "from {gap}"
         );
     }
+    let limit = Layer {
+        rule: Jitter { rate: 10_156 },
+        below: Layer {
+            rule: Share { rate: 10_156 },
+            below: Floor { gap: 8 },
+        },
+    };
+    let mut layers: [WorkRow<_, _>; 3] = array::from_fn(|_| WorkRow::new(limit.empty_load(), 0));
+    assert_eq!(rt;
+        solve(&plan, &limit, &Reserve, 24, &mut answer, &mut layers),
+        found(2340, 24)
+    );
+    assert_eq!(rt; answer, [row(1, 16, 67), row(2, 32, 250)]);
+    Ok(())
+}
+
+// A setting that a solve returned is accepted where it is checked, without the rows past the links.
+#[test]
+fn what_is_returned_can_be_checked(rt: HostRuntime) -> Result<(), Fail> {
+    let port = Port::new(10_000, 10_000, 2)?;
+    let plan = three_links()?;
+    let mut answer = [BEFORE; 4];
+    by_burst(&plan, port, u32::MAX, &mut answer)?;
+    assert_eq!(rt; check_port_setting(&plan, port, &answer[..3]), Ok(()));
+    assert_eq!(rt;
+        check_port_setting(&plan, port, &answer),
+        Err(SettingFault::RowsNotTheLinks)
+    );
     Ok(())
 }

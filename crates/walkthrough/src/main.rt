@@ -80,7 +80,7 @@ fn check_settings(rt: &impl Print, plan: &Plan, port: Port) -> io::Result<()> {
 /// Asks for the setting that reserves least, at the port and at slower ones.
 fn ask_settings(rt: &impl Print, plan: &Plan, port: Port) -> io::Result<()> {
     println!(rt;
-        "9. Ask for the setting that reserves least. The search may try only so many beginnings of settings: its visits."
+        "9. Ask for the setting that reserves least. The search tries beginnings of settings, each a visit, and may make only so many."
     )?;
     for allowance in [8, 9] {
         print_solve(rt, plan, port, allowance)?;

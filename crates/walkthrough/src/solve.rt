@@ -71,11 +71,11 @@ fn print_offer(
     }
 }
 
-/// Says what the port can do with at the least, in kbit/s with four decimals: enough for sixteenths.
+/// Says what the setting reserves, in kbit/s with four decimals: enough for sixteenths.
 fn print_reserve(rt: &impl Print, solved: Solved<u32>) -> io::Result<()> {
     let units = u64::from(solved.total);
     println!(rt;
-        "   no other setting within the limit reserves less: {}.{:04} kbit/s, found in {} visits",
+        "   no setting that serves the links and is within the limit reserves less: {}.{:04} kbit/s, found in {} visits",
         units / UNITS_PER_KBIT,
         units % UNITS_PER_KBIT * 10_000 / UNITS_PER_KBIT,
         solved.visits
@@ -90,7 +90,7 @@ fn print_meaning(rt: &impl Print, fault: SolveFault) -> io::Result<()> {
         );
     }
     if fault == SolveFault::Spent {
-        return println!(rt; "   nothing is said of the port: to know takes more visits");
+        return println!(rt; "   nothing is said of the port: the search needs more visits");
     }
     Ok(())
 }

@@ -4,15 +4,15 @@ use Rattle.plan.specs.Held.{standing}
 use Rattle.planner.specs.Named.{aim_of}
 use Rattle.planner.specs.Table.{LawfulCandidates, candidates_of}
 use Rattle.planner.proofs.Choices.{lawful_candidates}
-use Rattle.planner.proofs.Endings.{PutToPort, none_ends, found_ends}
+use Rattle.planner.proofs.Endings.{AnsweredYes, none_ends, found_ends}
 use Rattle.planner.proofs.solver.search_port.Goals.{In_default}
 use Rattle.planner.proofs.solver.search_port.Goals as goal
 
 pub search-requires-clause-lawful : goal.search-requires-clause-lawful
 search-requires-clause-lawful g c = subst (λ t. LawfulCandidates (candidates_of t)) (sym (c.deref-2.ensures.0 ∙ c.candidate_table-table.ensures)) (lawful_candidates (standing c.args.plan.now) c.args.plan.now.sound)
 
-put : (g : _) (c : In_default g) (table : List (List (Option Pair))) → table ≡ c.candidate_table-table.result.items → PutToPort (standing c.args.plan.now) (length c.args.work.now) c.args.answer.now table
-put g c table is = record {
+asked : (g : _) (c : In_default g) (table : List (List (Option Pair))) → table ≡ c.candidate_table-table.result.items → AnsweredYes (standing c.args.plan.now) (length c.args.work.now) c.args.answer.now table
+asked g c table is = record {
   flows = c.requires.flows;
   rows = c.requires.rows;
   work = c.requires.work;
@@ -23,11 +23,11 @@ put g c table is = record {
 pub returns-in-NoneWithin : goal.returns-in-NoneWithin
 returns-in-NoneWithin g c =
     none_ends (aim_of (g.L.Limit.breach c.args.limit.now) (g.M.Measure.totalled c.args.measure.now) (g.M.Measure.atmost c.args.measure.now)) c.args.allowance
-    (put g (goal.at.returns-in-NoneWithin g c).In_default c.deref-2.result.now c.deref-2.ensures.0)
+    (asked g (goal.at.returns-in-NoneWithin g c).In_default c.deref-2.result.now c.deref-2.ensures.0)
     c.search.ensures.least c.in-NoneWithin.visits c.search.result c.in-NoneWithin.is c.search.ensures.told
 
 pub returns-in-Found : goal.returns-in-Found
 returns-in-Found g c =
     found_ends (aim_of (g.L.Limit.breach c.args.limit.now) (g.M.Measure.totalled c.args.measure.now) (g.M.Measure.atmost c.args.measure.now)) c.args.allowance
-    (put g (goal.at.returns-in-Found g c).In_default c.deref-2.result.now c.deref-2.ensures.0)
+    (asked g (goal.at.returns-in-Found g c).In_default c.deref-2.result.now c.deref-2.ensures.0)
     c.search.ensures.least c.in-Found.total c.in-Found.visits _ c.search.new.setting c.write_rows.new.answer c.search.result c.in-Found.is c.search.ensures.told c.search.ensures.setting (search rules)
