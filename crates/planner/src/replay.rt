@@ -2,8 +2,7 @@ ghost use Rattle.std.specs.Prelude.{◌≡◌, length};
 ghost use Rattle.limits.specs.Gaps.{eight_gaps};
 ghost use Rattle.plan.specs.Held.{standing};
 ghost use Rattle.planner.specs.Ending.{ended, ending};
-ghost use Rattle.planner.specs.Calls.{ledger, after_call, rows_after};
-ghost use Rattle.planner.specs.Named.{aim_of};
+ghost use Rattle.planner.specs.Calls.{ledger, aim_by, after_call, rows_after};
 ghost use Rattle.planner.specs.Promise.{Promised};
 
 use crate::call::{PlannerCall, SolveCall};
@@ -23,9 +22,9 @@ pub fn solve_after<L: Limit, M: Measure>(
     answer: &mut [Row],
     work: &mut [WorkRow<L::Load, M::Total>],
 ) -> Result<Solved<M::Total>, SolveFault>
-    ensures ending { ended result answer.new ≡ ending eight_gaps (aim_of (L.breach last.now.limit) (M.totalled last.now.measure) (M.atmost last.now.measure)) (ledger calls.now) last.now.allowance (length work.old)
-        (rows_after eight_gaps (λ asked. aim_of (L.breach asked.limit) (M.totalled asked.measure) (M.atmost asked.measure)) (length work.old) calls.now answer.old) }
-    ensures promise { Promised eight_gaps (aim_of (L.breach last.now.limit) (M.totalled last.now.measure) (M.atmost last.now.measure)) (ledger calls.now) last.now.allowance (ended result answer.new) }
+    ensures ending { ended result answer.new ≡ ending eight_gaps (aim_by L.breach M.totalled M.atmost last.now) (ledger calls.now) last.now.allowance (length work.old)
+        (rows_after eight_gaps (aim_by L.breach M.totalled M.atmost) (length work.old) calls.now answer.old) }
+    ensures promise { Promised eight_gaps (aim_by L.breach M.totalled M.atmost last.now) (ledger calls.now) last.now.allowance (ended result answer.new) }
 {
     let mut plan = Plan::open();
     for call in calls {
@@ -48,7 +47,7 @@ fn perform<L: Limit, M: Measure>(
     answer: &mut [Row],
     work: &mut [WorkRow<L::Load, M::Total>],
 )
-    ensures { record { standing = standing plan.new; rows = answer.new } ≡ after_call eight_gaps (λ asked. aim_of (L.breach asked.limit) (M.totalled asked.measure) (M.atmost asked.measure)) (length work.old) (record { standing = standing plan.old; rows = answer.old }) call.now }
+    ensures { record { standing = standing plan.new; rows = answer.new } ≡ after_call eight_gaps (aim_by L.breach M.totalled M.atmost) (length work.old) (record { standing = standing plan.old; rows = answer.old }) call.now }
 {
     match call {
         PlannerCall::Edit(edit) => {

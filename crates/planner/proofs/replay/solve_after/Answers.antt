@@ -3,14 +3,14 @@ use Rattle.limits.specs.Gaps.{eight_gaps}
 use Rattle.plan.specs.Held.{standing}
 use Rattle.plan.specs.Standing.{nothing}
 use Rattle.planner.specs.declared.call.SolveCall.{SolveCall}
-use Rattle.planner.specs.Calls.{State, event}
-use Rattle.planner.specs.Named.{Aim, aim_of}
+use Rattle.planner.specs.Calls.{State, event, aim_by}
+use Rattle.planner.specs.Named.{Aim}
 use Rattle.planner.proofs.Replayed.{held_further, held_after_all, ledger_after_all, ends_after_all}
 use Rattle.planner.proofs.replay.solve_after.Given as given
 use Rattle.planner.proofs.replay.solve_after.Goals as goal
 
 abbrev aim : (g : given.Over) → SolveCall g.row.L.Denot g.row.M.Denot → Aim g.row.M-Total.Denot
-aim g asked = aim_of (g.L.Limit.breach asked.limit) (g.M.Measure.totalled asked.measure) (g.M.Measure.atmost asked.measure)
+aim g = aim_by g.L.Limit.breach g.M.Measure.totalled g.M.Measure.atmost
 
 pub loop-call-preserved : goal.loop-call-preserved
 loop-call-preserved g c =
