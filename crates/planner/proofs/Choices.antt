@@ -7,6 +7,7 @@ use Rattle.std.proofs.ByRecursion.{All-map, All-append, All-weaker}
 use Rattle.std.proofs.lemmas.Bool.{and_from, cases_Bool, cond-true, cond-false}
 use Rattle.std.proofs.lemmas.List.{length-map}
 use Rattle.std.proofs.lemmas.Option.{none-some}
+use Rattle.std.proofs.lemmas.Slice.Zip.{AllZip-long}
 use Rattle.limits.specs.declared.pair.Pair.{Pair}
 use Rattle.limits.specs.Gaps.{eight_gaps}
 use Rattle.limits.specs.Selection.{Lawful}
@@ -47,12 +48,6 @@ module _ (flows : ℕ → List Flow) where
   pub complete_given : (links : List ℕ) → AllByRecursion (Given links) (complete (of_links links))
   complete_given [] = (tt, tt)
   complete_given (link ∷ links) = given_more link links (present (candidates eight_gaps (flows link))) (complete (of_links links)) (all_fit (flows link)) (complete_given links)
-
-  pub given_long : (links : List ℕ) (s : List Pair) → Given links s → length s ≡ length links
-  given_long [] [] h = refl
-  given_long [] (p ∷ s) h = absurd h
-  given_long (link ∷ links) [] h = absurd h
-  given_long (link ∷ links) (p ∷ s) h = omega (arith, given_long links s h.1)
 
   -- the link has no candidate
   abbrev lacks : ℕ → Bool
@@ -99,7 +94,7 @@ module _ (st : Standing) where
   complete_choices = complete_given (flows_of st) st.links
 
   pub choice_long : (s : List Pair) → Choice eight_gaps st s → length s ≡ length st.links
-  choice_long s h = given_long (flows_of st) st.links s h
+  choice_long s h = AllZip-long _ st.links s h
 
   pub no_choice : (link : ℕ) → first_without_candidate eight_gaps st ≡ Some link → (s : List Pair) → Choice eight_gaps st s → ⊥
   no_choice link e s h = none_given (flows_of st) st.links link e s h

@@ -34,8 +34,8 @@ module _ {T : Type 0} (a : Aim T) (allowance : ℕ) {st : Standing} {work_rows :
   better : LeastOfAll a cs
   better = subst (λ t. LeastOfAll a (candidates_of t)) asked.is others
 
-  by_search : (o : Option (List Pair)) → leb (visits a cs) allowance ≡ true → named a cs ≡ o → ends a st better allowance old None true true None true o ≡ ending eight_gaps a st allowance work_rows old
-  by_search o few n = answered a st better allowance old work_rows None true true None true o (sym asked.flows) (sym (le-leb _ _ asked.rows)) (sym (lt-ltb _ _ asked.work)) asked.candidates (sym few) (sym n)
+  by_search : (o : Option (List Pair)) → leb (visits a cs) allowance ≡ true → named a cs ≡ o → ends a st better allowance work_rows old None true true None true o ≡ ending eight_gaps a st allowance work_rows old
+  by_search o few n = answered a st better allowance work_rows old None true true None true o (sym asked.flows) (sym (le-leb _ _ asked.rows)) (sym (lt-ltb _ _ asked.work)) asked.candidates (sym few) (sym n)
 
   pub none_ends : (count : ℕ) (o : Outcome T) → o ≡ NoneWithin count → o ≡ outcome a (candidates_of table) allowance → record { refusal = (18, 0); report = None; rows = old } ≡ ending eight_gaps a st allowance work_rows old
   none_ends count o e told =

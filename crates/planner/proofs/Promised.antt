@@ -1,5 +1,5 @@
 -- What is promised of a solve follows from how it ends.
-use Rattle.std.proofs.Common.{◌≡◌, ℕ, if◌then◌else◌, ◌==◌, Bool, true, false, not, ◌||◌, leb, ltb, List, [], ◌∷◌, length, drop, Some, None, Option, refl, sym, ap, ap₂, ◌∙◌, subst, inl, inr, arith}
+use Rattle.std.proofs.Common.{◌≡◌, ℕ, if◌then◌else◌, ◌==◌, Bool, true, false, not, ◌&&◌, ◌||◌, leb, ltb, List, [], ◌∷◌, length, drop, Some, None, Option, refl, sym, ap, ap₂, ◌∙◌, subst, inl, inr, arith}
 use Rattle.std.specs.List.{list_any, find}
 use Rattle.std.specs.Option.{is_none, is_some}
 use Rattle.std.proofs.lemmas.Bool.{both_ways, false≢true, cases_Bool, cond-true, cond-false}
@@ -79,7 +79,7 @@ module _ {T : Type 0} (a : Aim T) (st : Standing) (others : LeastOfAll a (link_c
         subst (λ u. no_more a u t ≡ true) (same_Some one.0 s (sym one.1 ∙ e)) one.2;
   }
 
-  module _ (allowance : ℕ) (old : List Row) where
+  module _ (allowance work_rows : ℕ) (old : List Row) where
     -- the ending, by what each question is answered
     abbrev pub ends : Option ℕ → Bool → Bool → Option ℕ → Bool → Option (List Pair) → Ending T
     ends flow answers works candidate fit o =
@@ -87,16 +87,20 @@ module _ {T : Type 0} (a : Aim T) (st : Standing) (others : LeastOfAll a (link_c
         ending_with a cs st.links old r (if r.0 == 0 then o else None)
 
     abbrev Holds : Ending T → Type 0
-    Holds e = Promised eight_gaps a st allowance e
+    Holds e = Promised eight_gaps a st allowance (length old) work_rows e
 
-    -- an ending before the port is looked at
-    early : (e : Ending T) → well_posed e ≡ false → e.report ≡ None → Holds e
+    -- whether the solve is well posed
+    abbrev posed : Bool
+    posed = well_posed st (length old) work_rows
+
+    -- the ending where it is not
+    early : (e : Ending T) → posed ≡ false → e.report ≡ None → Holds e
     early e before none = record {
-      unmeetable = λ h _. absurd (both_ways (well_posed e) before h);
+      unmeetable = λ h _. absurd (both_ways posed before h);
       least = λ r h. absurd (none-some r (sym none ∙ h));
-      spent = λ h _. absurd (both_ways (well_posed e) before h);
+      spent = λ h _. absurd (both_ways posed before h);
       counted = λ r h. absurd (none-some r (sym none ∙ h));
-      setting = λ h _ _ _. absurd (both_ways (well_posed e) before h);
+      setting = λ h _ _ _. absurd (both_ways posed before h);
     }
 
     without_candidate : (link : ℕ) → first_without_candidate eight_gaps st ≡ Some link → (fit : Bool) (o : Option (List Pair)) → Holds (ends None true true (Some link) fit o)
@@ -136,30 +140,30 @@ module _ {T : Type 0} (a : Aim T) (st : Standing) (others : LeastOfAll a (link_c
           least = λ r h. rw (pairs_back st.links s long rest) (subst (λ q. LeastChoice eight_gaps a st s q.total) (same r h) (least_named s n));
           spent = λ _ _. grind (arith, few);
           counted = λ r h. ap (λ q. q.visits) (sym (same r h));
-          setting = λ _ _ _ _. (s, n, rows_back st.links s long rest);
+          setting = λ _ _ _ _. (s, n, refl, rows_back st.links s long rest);
         }
 
-    by_answers : (flow : Option ℕ) (answers works : Bool) (candidate : Option ℕ) (fit : Bool) (o : Option (List Pair)) → first_without_candidate eight_gaps st ≡ candidate → leb (visits a cs) allowance ≡ fit → named a cs ≡ o → Holds (ends flow answers works candidate fit o)
-    by_answers (Some link) answers works candidate fit o e f n = early _ refl refl
-    by_answers None false works candidate fit o e f n = early _ refl refl
-    by_answers None true false candidate fit o e f n = early _ refl refl
-    by_answers None true true (Some link) fit o e f n = without_candidate link e fit o
-    by_answers None true true None false o e f n = too_many e f o
-    by_answers None true true None true None e f n = none_found e f n
-    by_answers None true true None true (Some s) e f n = found e f s n
+    by_answers : (flow : Option ℕ) (answers works : Bool) (candidate : Option ℕ) (fit : Bool) (o : Option (List Pair)) → first_without_flow st ≡ flow → leb (length st.links) (length old) ≡ answers → ltb (length st.links) work_rows ≡ works → first_without_candidate eight_gaps st ≡ candidate → leb (visits a cs) allowance ≡ fit → named a cs ≡ o → Holds (ends flow answers works candidate fit o)
+    by_answers (Some link) answers works candidate fit o x y z e f n = early _ (λ i. is_none (x i) && (leb (length st.links) (length old) && ltb (length st.links) work_rows)) refl
+    by_answers None false works candidate fit o x y z e f n = early _ (λ i. is_none (x i) && (y i && ltb (length st.links) work_rows)) refl
+    by_answers None true false candidate fit o x y z e f n = early _ (λ i. is_none (x i) && (y i && z i)) refl
+    by_answers None true true (Some link) fit o x y z e f n = without_candidate link e fit o
+    by_answers None true true None false o x y z e f n = too_many e f o
+    by_answers None true true None true None x y z e f n = none_found e f n
+    by_answers None true true None true (Some s) x y z e f n = found e f s n
 
-    pub promised : (work_rows : ℕ) → Promised eight_gaps a st allowance (ending eight_gaps a st allowance work_rows old)
-    promised work_rows =
+    pub promised : Holds (ending eight_gaps a st allowance work_rows old)
+    promised =
         rw (named_where_any (named a cs) refl)
-        (by_answers (first_without_flow st) (leb (length st.links) (length old)) (ltb (length st.links) work_rows) (first_without_candidate eight_gaps st) (leb (visits a cs) allowance) (named a cs) refl refl refl)
+        (by_answers (first_without_flow st) (leb (length st.links) (length old)) (ltb (length st.links) work_rows) (first_without_candidate eight_gaps st) (leb (visits a cs) allowance) (named a cs) refl refl refl refl refl refl)
 
     -- the ending of the solve, by what each question is answered
-    pub answered : (work_rows : ℕ) (flow : Option ℕ) (answers works : Bool) (candidate : Option ℕ) (fit : Bool) (o : Option (List Pair)) → flow ≡ first_without_flow st → answers ≡ leb (length st.links) (length old) → works ≡ ltb (length st.links) work_rows → candidate ≡ first_without_candidate eight_gaps st → fit ≡ leb (visits a cs) allowance → o ≡ named a cs → ends flow answers works candidate fit o ≡ ending eight_gaps a st allowance work_rows old
-    answered work_rows flow answers works candidate fit o f an w c v n =
+    pub answered : (flow : Option ℕ) (answers works : Bool) (candidate : Option ℕ) (fit : Bool) (o : Option (List Pair)) → flow ≡ first_without_flow st → answers ≡ leb (length st.links) (length old) → works ≡ ltb (length st.links) work_rows → candidate ≡ first_without_candidate eight_gaps st → fit ≡ leb (visits a cs) allowance → o ≡ named a cs → ends flow answers works candidate fit o ≡ ending eight_gaps a st allowance work_rows old
+    answered flow answers works candidate fit o f an w c v n =
         rw (named_where_any (named a cs) refl)
         (λ i. ends (f i) (an i) (w i) (c i) (v i) (n i))
 
   -- the promise, in the ledger's words
-  pub promise_kept : (allowance work_rows : ℕ) (old : List Row) (e : Ending T) (events : List Event) → e ≡ ending eight_gaps a st allowance work_rows old → st ≡ ledger_of events → Promised eight_gaps a (ledger_of events) allowance e
+  pub promise_kept : (allowance work_rows : ℕ) (old : List Row) (e : Ending T) (events : List Event) → e ≡ ending eight_gaps a st allowance work_rows old → st ≡ ledger_of events → Promised eight_gaps a (ledger_of events) allowance (length old) work_rows e
   promise_kept allowance work_rows old e events is led =
-      subst (λ s. Promised eight_gaps a s allowance e) led (subst (Promised eight_gaps a st allowance) (sym is) (promised allowance old work_rows))
+      subst (λ s. Promised eight_gaps a s allowance (length old) work_rows e) led (subst (Promised eight_gaps a st allowance (length old) work_rows) (sym is) (promised allowance work_rows old))

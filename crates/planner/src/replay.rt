@@ -24,7 +24,7 @@ pub fn solve_after<L: Limit, M: Measure>(
 ) -> Result<Solved<M::Total>, SolveFault>
     ensures ending { ended result answer.new ≡ ending eight_gaps (aim_by L.breach M.totalled M.atmost last.now) (ledger calls.now) last.now.allowance (length work.old)
         (rows_after eight_gaps (aim_by L.breach M.totalled M.atmost) (length work.old) calls.now answer.old) }
-    ensures promise { Promised eight_gaps (aim_by L.breach M.totalled M.atmost last.now) (ledger calls.now) last.now.allowance (ended result answer.new) }
+    ensures promise { Promised eight_gaps (aim_by L.breach M.totalled M.atmost last.now) (ledger calls.now) last.now.allowance (length answer.old) (length work.old) (ended result answer.new) }
 {
     let mut plan = Plan::open();
     for call in calls {

@@ -1,4 +1,4 @@
-use Rattle.std.proofs.Common.{rules, length, map}
+use Rattle.std.proofs.Common.{rules, length, map, sym}
 use Rattle.limits.specs.Gaps.{eight_gaps}
 use Rattle.plan.specs.Held.{standing}
 use Rattle.plan.specs.Standing.{nothing}
@@ -26,4 +26,4 @@ pub returns-clause-promise : goal.returns-clause-promise
 returns-clause-promise g c =
     let start : State = record { standing = nothing; rows = c.args.answer.now } in
     let held = held_after_all eight_gaps (aim g) (length c.args.work.now) c.args.calls.now start c.loop-call.call-index _ c.loop-call-test.false c.loop-call.invariant in
-    c.solve.ensures.promise (map event c.args.calls.now) (ledger_after_all eight_gaps (aim g) (length c.args.work.now) c.args.calls.now start (standing c.loop-call.plan) c.loop-call.answer held)
+    rw (sym c.loop-call.auto.answer) (rw (sym c.loop-call.auto.work) (c.solve.ensures.promise (map event c.args.calls.now) (ledger_after_all eight_gaps (aim g) (length c.args.work.now) c.args.calls.now start (standing c.loop-call.plan) c.loop-call.answer held)))
