@@ -16,17 +16,17 @@ use Rattle.plan.specs.Candidate.{candidates}
 use Rattle.plan.specs.Sound.{good}
 use Rattle.plan.specs.Standing.{Standing, flows_of}
 use Rattle.plan.proofs.Good.{facts_from_good}
-use Rattle.planner.specs.Choice.{Choice, link_candidates, candidate_table, first_without_candidate}
+use Rattle.planner.specs.Choice.{serves, Choice, link_candidates, candidate_table, lacks_candidate, first_without_candidate}
 use Rattle.planner.specs.Exchange.{raised_candidate, raised_candidates}
 use Rattle.planner.specs.Selections.{complete}
 use Rattle.planner.specs.Table.{present, candidates_of, Rising, LawfulCandidates}
-use Rattle.planner.proofs.Served.{fits, all_fit, all_lawful, all_rise, raised, none_fits}
+use Rattle.planner.proofs.Served.{all_fit, all_lawful, all_rise, raised, none_fits}
 
 -- links with the flows of each
 module _ (flows : ℕ → List Flow) where
   -- each link is given a pair that serves it
   abbrev Given : List ℕ → List Pair → Type 0
-  Given links s = AllZip (λ link p. fits (flows link) p ≡ true) links s
+  Given links s = AllZip (λ link p. serves eight_gaps (flows link) p ≡ true) links s
 
   -- the candidates of each link
   abbrev of_links : List ℕ → List (List Pair)
@@ -39,7 +39,7 @@ module _ (flows : ℕ → List Flow) where
   given_raised (link ∷ links) (p ∷ s) h = and_from (raised_candidate (present (candidates eight_gaps (flows link))) p) (raised_candidates (of_links links) s) (raised (flows link) p h.0) (given_raised links s h.1)
 
   -- one more link
-  given_more : (link : ℕ) (links : List ℕ) (c : List Pair) (ss : List (List Pair)) → AllByRecursion (λ p. fits (flows link) p ≡ true) c → AllByRecursion (Given links) ss → AllByRecursion (Given (link ∷ links)) (flat_map (λ p. map (λ s. p ∷ s) ss) c)
+  given_more : (link : ℕ) (links : List ℕ) (c : List Pair) (ss : List (List Pair)) → AllByRecursion (λ p. serves eight_gaps (flows link) p ≡ true) c → AllByRecursion (Given links) ss → AllByRecursion (Given (link ∷ links)) (flat_map (λ p. map (λ s. p ∷ s) ss) c)
   given_more link links [] ss h rest = tt
   given_more link links (p ∷ c) ss h rest =
       let one = All-map (Given (link ∷ links)) (λ s. p ∷ s) ss (All-weaker (Given links) (λ s. Given (link ∷ links) (p ∷ s)) (λ s g. (h.0, g)) ss rest) in
@@ -51,7 +51,7 @@ module _ (flows : ℕ → List Flow) where
 
   -- the link has no candidate
   abbrev lacks : ℕ → Bool
-  lacks link = list_all is_none (candidates eight_gaps (flows link))
+  lacks link = lacks_candidate eight_gaps (flows link)
 
   pub none_given : (links : List ℕ) (link : ℕ) → find lacks links ≡ Some link → (s : List Pair) → Given links s → ⊥
   none_given [] link e s h = none-some link e

@@ -6,7 +6,6 @@ use Rattle.std.proofs.lemmas.Bool.{both_ways, false≢true, cases_Bool, cond-tru
 use Rattle.std.proofs.lemmas.Option.{none-some, same_Some}
 use Rattle.limits.specs.declared.pair.Pair.{Pair}
 use Rattle.limits.specs.Gaps.{eight_gaps}
-use Rattle.plan.specs.History.{Event, ledger_of}
 use Rattle.plan.specs.Queries.{first_without_flow}
 use Rattle.plan.specs.Standing.{Standing}
 use Rattle.planner.specs.declared.row.Row.{Row}
@@ -163,7 +162,6 @@ module _ {T : Type 0} (a : Aim T) (st : Standing) (others : LeastOfAll a (link_c
         rw (named_where_any (named a cs) refl)
         (λ i. ends (f i) (an i) (w i) (c i) (v i) (n i))
 
-  -- the promise, in the ledger's words
-  pub promise_kept : (allowance work_rows : ℕ) (old : List Row) (e : Ending T) (events : List Event) → e ≡ ending eight_gaps a st allowance work_rows old → st ≡ ledger_of events → Promised eight_gaps a (ledger_of events) allowance (length old) work_rows e
-  promise_kept allowance work_rows old e events is led =
-      subst (λ s. Promised eight_gaps a s allowance (length old) work_rows e) led (subst (Promised eight_gaps a st allowance (length old) work_rows) (sym is) (promised allowance work_rows old))
+  -- of whatever ends so
+  pub promise_kept : (allowance work_rows : ℕ) (old : List Row) (e : Ending T) → e ≡ ending eight_gaps a st allowance work_rows old → Promised eight_gaps a st allowance (length old) work_rows e
+  promise_kept allowance work_rows old e is = subst (Promised eight_gaps a st allowance (length old) work_rows) (sym is) (promised allowance work_rows old)

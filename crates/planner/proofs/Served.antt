@@ -16,13 +16,10 @@ use Rattle.plan.specs.declared.flow.Flow.{Flow}
 use Rattle.plan.specs.Candidate.{candidate, candidates, LeastAt}
 use Rattle.plan.specs.Message.{meets}
 use Rattle.plan.proofs.Least.{candidate_least, lawful_least}
+use Rattle.planner.specs.Choice.{serves, lacks_candidate}
 use Rattle.planner.specs.Exchange.{raised_candidate}
 use Rattle.planner.specs.Table.{present, Rising}
 use Rattle.planner.proofs.Members.{In, any_in}
-
--- the pair is lawful and meets the rule of these flows
-abbrev pub fits : List Flow → Pair → Bool
-fits fs p = lawful eight_gaps p && meets fs p.gap p.mtu
 
 -- what holds of each candidate that there is holds of all that a row holds
 present_all : (P : Pair → Type 0) (os : List (Option Pair)) → AllByRecursion (λ o. IfSome o P) os → AllByRecursion P (present os)
@@ -36,15 +33,15 @@ module _ (fs : List Flow) where
   all_present P gaps h = present_all P (candidates gaps fs) (All-map (λ o. IfSome o P) (candidate fs) gaps h)
 
   -- a candidate serves the flows
-  fits_at : (g : ℕ) → among eight_gaps g ≡ true → (o : Option Pair) → LeastAt fs g o → IfSome o (λ p. fits fs p ≡ true)
+  fits_at : (g : ℕ) → among eight_gaps g ≡ true → (o : Option Pair) → LeastAt fs g o → IfSome o (λ p. serves eight_gaps fs p ≡ true)
   fits_at g e None least = tt
   fits_at g e (Some p) least = and_from (lawful eight_gaps p) (meets fs p.gap p.mtu) (lawful_least eight_gaps fs g (Some p) e least) (ap (λ x. meets fs x p.mtu) least.0 ∙ least.3)
 
-  pub all_fit : AllByRecursion (λ p. fits fs p ≡ true) (present (candidates eight_gaps fs))
-  all_fit = all_present (λ p. fits fs p ≡ true) eight_gaps (All-weaker (λ g. among eight_gaps g ≡ true) (λ g. IfSome (candidate fs g) (λ p. fits fs p ≡ true)) (λ g e. fits_at g e (candidate fs g) (candidate_least fs g)) eight_gaps (all_from_every (among eight_gaps) eight_gaps refl))
+  pub all_fit : AllByRecursion (λ p. serves eight_gaps fs p ≡ true) (present (candidates eight_gaps fs))
+  all_fit = all_present (λ p. serves eight_gaps fs p ≡ true) eight_gaps (All-weaker (λ g. among eight_gaps g ≡ true) (λ g. IfSome (candidate fs g) (λ p. serves eight_gaps fs p ≡ true)) (λ g e. fits_at g e (candidate fs g) (candidate_least fs g)) eight_gaps (all_from_every (among eight_gaps) eight_gaps refl))
 
   pub all_lawful : AllByRecursion Lawful (present (candidates eight_gaps fs))
-  all_lawful = All-weaker (λ p. fits fs p ≡ true) Lawful (λ p e. (and_parts (lawful eight_gaps p) (meets fs p.gap p.mtu) e).0) (present (candidates eight_gaps fs)) all_fit
+  all_lawful = All-weaker (λ p. serves eight_gaps fs p ≡ true) Lawful (λ p e. (and_parts (lawful eight_gaps p) (meets fs p.gap p.mtu) e).0) (present (candidates eight_gaps fs)) all_fit
 
   -- the gaps rise
   abbrev Up : List ℕ → Type 0
@@ -87,7 +84,7 @@ module _ (fs : List Flow) where
       ]
 
   -- a pair that serves the flows is the candidate at its gap, or its MTU is greater
-  serving : (p : Pair) → fits fs p ≡ true → (q : Pair) × (candidate fs p.gap ≡ Some q) × (below p q ≡ true)
+  serving : (p : Pair) → serves eight_gaps fs p ≡ true → (q : Pair) × (candidate fs p.gap ≡ Some q) × (below p q ≡ true)
   serving p e = at (candidate fs p.gap) refl (candidate_least fs p.gap)
     where
       parts : (lawful eight_gaps p ≡ true) × (meets fs p.gap p.mtu ≡ true)
@@ -100,7 +97,7 @@ module _ (fs : List Flow) where
       at None is least = absurd (both_ways (meets fs p.gap p.mtu) (least p.mtu range.0 range.1) parts.1)
       at (Some q) is least = (q, is, and_from (eqb q.gap p.gap) (leb q.mtu p.mtu) (eq-eqb q.gap p.gap least.0) (le-leb q.mtu p.mtu (least.4 p.mtu range.0 parts.1)))
 
-  pub raised : (p : Pair) → fits fs p ≡ true → raised_candidate (present (candidates eight_gaps fs)) p ≡ true
+  pub raised : (p : Pair) → serves eight_gaps fs p ≡ true → raised_candidate (present (candidates eight_gaps fs)) p ≡ true
   raised p e =
       let legal = (and_parts (lawful eight_gaps p) (meets fs p.gap p.mtu) e).0 in
       let low = serving p e in
@@ -113,7 +110,7 @@ module _ (fs : List Flow) where
   empty (Some p ∷ os) e = absurd (both_ways false refl e)
 
   -- where there is no candidate, no pair serves the flows
-  pub none_fits : (p : Pair) → list_all is_none (candidates eight_gaps fs) ≡ true → fits fs p ≡ true → ⊥
+  pub none_fits : (p : Pair) → lacks_candidate eight_gaps fs ≡ true → serves eight_gaps fs p ≡ true → ⊥
   none_fits p e serves =
       let left : raised_candidate [] p ≡ true = subst (λ ps. raised_candidate ps p ≡ true) (empty (candidates eight_gaps fs) e) (raised p serves) in
       false≢true (and_parts (lawful eight_gaps p) false left).1

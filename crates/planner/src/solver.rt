@@ -35,6 +35,7 @@ pub fn solve<L: Limit, M: Measure>(
     work: &mut [WorkRow<L::Load, M::Total>],
 ) -> Result<Solved<M::Total>, SolveFault>
     ensures ending { ended result answer.new ≡ ending eight_gaps (aim_of (L.breach limit.now) (M.totalled measure.now) (M.atmost measure.now)) (standing plan.now) allowance (length work.old) answer.old }
+    ensures plan { Promised eight_gaps (aim_of (L.breach limit.now) (M.totalled measure.now) (M.atmost measure.now)) (standing plan.now) allowance (length answer.old) (length work.old) (ended result answer.new) }
     ensures promise { (events : List Event) → standing plan.now ≡ ledger_of events
         → Promised eight_gaps (aim_of (L.breach limit.now) (M.totalled measure.now) (M.atmost measure.now)) (ledger_of events) allowance (length answer.old) (length work.old) (ended result answer.new) }
     ensures further { OneFurther (standing plan.now) Solve (standing plan.now) }

@@ -19,7 +19,7 @@ fn asked(share: u32, allowance: u32) -> Result<SolveCall<PortLimit, Reserve>, Fa
 }
 
 /// Adds a flow.
-fn add(link: u16, flow: u16, payload: u16, cycle: u16) -> ReserveCall {
+fn add<L, M>(link: u16, flow: u16, payload: u16, cycle: u16) -> PlannerCall<L, M> {
     PlannerCall::Edit(Call::AddFlow {
         link,
         flow,
@@ -72,16 +72,16 @@ fn mixed_calls() -> Result<[ReserveCall; 13], Fail> {
 fn edits_solves_and_refusals(rt: HostRuntime) -> Result<(), Fail> {
     let calls = mixed_calls()?;
     let alone = row(1, 32, 200);
-    let both = [row(1, 16, 67), row(2, 32, 250), BEFORE];
+    let left = [alone, BEFORE, BEFORE];
     // the second solve of the list is refused since link 2 has no flow, and the third since it takes 36 visits
     for (count, share, allowance, told, rows) in [
-        (3, 10_000, 6, found(1068, 6), [alone, BEFORE, BEFORE]),
+        (3, 10_000, 6, found(1068, 6), left),
         (
             5,
             10_000,
             42,
             Err(SolveFault::LinkWithoutFlow { link: 2 }),
-            [alone, BEFORE, BEFORE],
+            left,
         ),
         (
             12,
@@ -90,21 +90,15 @@ fn edits_solves_and_refusals(rt: HostRuntime) -> Result<(), Fail> {
             found(3204, 36),
             [alone, row(2, 16, 200), BEFORE],
         ),
-        (13, 10_000, 42, found(2340, 42), both),
         (
             13,
             10_000,
-            41,
-            Err(SolveFault::Spent),
-            [alone, BEFORE, BEFORE],
+            42,
+            found(2340, 42),
+            [row(1, 16, 67), row(2, 32, 250), BEFORE],
         ),
-        (
-            13,
-            1000,
-            6,
-            Err(SolveFault::NothingWithin),
-            [alone, BEFORE, BEFORE],
-        ),
+        (13, 10_000, 41, Err(SolveFault::Spent), left),
+        (13, 1000, 6, Err(SolveFault::NothingWithin), left),
     ] {
         assert_eq!(rt;
             performed(&calls[..count], &asked(share, allowance)?),
@@ -196,64 +190,44 @@ fn a_last_solve_in_tables_that_are_too_short(rt: HostRuntime) -> Result<(), Fail
     Ok(())
 }
 
-// By burst, under a floor that is another for each solve: a withdrawal, and then an amendment that leaves no candidate.
-#[test]
-fn solves_under_limits_of_their_own(rt: HostRuntime) -> Result<(), Fail> {
-    let at = |gap| SolveCall {
+/// A solve by burst under a floor alone.
+fn from_gap(gap: u32) -> SolveCall<Floor, Burst> {
+    SolveCall {
         limit: Floor { gap },
         measure: Burst,
         allowance: u32::MAX,
-    };
-    let calls = [
+    }
+}
+
+/// A link that is solved for, and then loses a flow and all its candidates.
+fn dwindling_calls() -> [PlannerCall<Floor, Burst>; 6] {
+    [
         PlannerCall::Edit(Call::AddLink { name: 1 }),
-        PlannerCall::Edit(Call::AddFlow {
-            link: 1,
-            flow: 1,
-            payload: 80,
-            cycle: 10,
-        }),
-        PlannerCall::Edit(Call::AddFlow {
-            link: 1,
-            flow: 2,
-            payload: 100,
-            cycle: 12,
-        }),
-        PlannerCall::Solve(at(4)),
+        add(1, 1, 80, 10),
+        add(1, 2, 100, 12),
+        PlannerCall::Solve(from_gap(4)),
         PlannerCall::Edit(Call::Withdraw { flow: 2 }),
         PlannerCall::Edit(Call::Amend {
             flow: 1,
             payload: 8192,
             cycle: 5,
         }),
-    ];
-    let total = BurstTotal { bytes: 0, units: 0 };
-    let mut work: [WorkRow<bool, BurstTotal>; 2] = array::from_fn(|_| WorkRow::new(true, total));
+    ]
+}
+
+// By burst, under a floor that is another for each solve.
+#[test]
+fn solves_under_limits_of_their_own(rt: HostRuntime) -> Result<(), Fail> {
+    let calls = dwindling_calls();
+    let burst = |bytes, units| BurstTotal { bytes, units };
+    let mut work: [WorkRow<bool, BurstTotal>; 2] = array::from_fn(|_| WorkRow::new(
+        true,
+        BurstTotal { bytes: 0, units: 0 },
+    ));
     for (count, gap, told, first) in [
-        (
-            3,
-            2,
-            found(
-                BurstTotal {
-                    bytes: 107,
-                    units: 6848,
-                },
-                3,
-            ),
-            row(1, 2, 40),
-        ),
+        (3, 2, found(burst(107, 6848), 3), row(1, 2, 40)),
         (4, 8, Err(SolveFault::NothingWithin), row(1, 4, 100)),
-        (
-            5,
-            8,
-            found(
-                BurstTotal {
-                    bytes: 147,
-                    units: 2352,
-                },
-                4,
-            ),
-            row(1, 8, 80),
-        ),
+        (5, 8, found(burst(147, 2352), 4), row(1, 8, 80)),
         (
             6,
             1,
@@ -264,7 +238,7 @@ fn solves_under_limits_of_their_own(rt: HostRuntime) -> Result<(), Fail> {
         let mut answer = [BEFORE];
         assert_eq!(rt;
             (
-                solve_after(&calls[..count], &at(gap), &mut answer, &mut work),
+                solve_after(&calls[..count], &from_gap(gap), &mut answer, &mut work),
                 answer
             ),
             (told, [first]),

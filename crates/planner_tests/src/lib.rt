@@ -4,6 +4,8 @@
 #[cfg(test)]
 mod calls;
 #[cfg(test)]
+mod own;
+#[cfg(test)]
 mod plans;
 #[cfg(test)]
 mod ports;

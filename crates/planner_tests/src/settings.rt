@@ -44,9 +44,6 @@ fn two_links_by_reserve(rt: HostRuntime) -> Result<(), Fail> {
             (told, rows),
             "at {share} from {floor}"
         );
-        if told.is_ok() {
-            assert_eq!(rt; check_port_setting(&plan, port, &rows), Ok(()));
-        }
     }
     Ok(())
 }
