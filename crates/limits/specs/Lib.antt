@@ -23,3 +23,4 @@ pub mod Every
 pub mod Within
 pub mod Kept
 pub mod SameGaps
+pub mod RuleLaws

@@ -20,15 +20,19 @@ pub record HasFigures (rate share floor : ℕ) (port : Port) : Type 0 where
 abbrev pub PortLayers : Type 0
 PortLayers = Layer Floor (Layer Share (Layer Jitter Open))
 
--- the limit of a port: its floor over its share over the jitter at its rate
-abbrev pub port_limit : Port → PortLayers
-port_limit port = record {
-  rule = record { gap = port.floor };
+-- the layers that these figures make: a floor over a share over the jitter at a rate
+abbrev pub layers_of : ℕ → ℕ → ℕ → PortLayers
+layers_of rate share floor = record {
+  rule = record { gap = floor };
   below = record {
-    rule = record { rate = port.share };
-    below = record { rule = record { rate = port.rate }; below = record {} };
+    rule = record { rate = share };
+    below = record { rule = record { rate = rate }; below = record {} };
   };
 }
+
+-- the limit of a port: its floor over its share over the jitter at its rate
+abbrev pub port_limit : Port → PortLayers
+port_limit port = layers_of port.rate port.share port.floor
 
 -- the breach of a selection under such layers, written out for the three rules
 abbrev pub layers_breach : PortLayers → List Pair → ℕ

@@ -1,11 +1,6 @@
-ghost use Rattle.std.specs.Prelude.{◌++◌, nat_le};
-ghost use Rattle.std.proofs.Common.{sym, ◌∙◌};
 ghost use Rattle.limits.specs.Breach.{unless};
 ghost use Rattle.limits.specs.Rules.{above_floor};
-ghost use Rattle.std.proofs.lemmas.Bool.{and_parts};
-ghost use Rattle.std.proofs.lemmas.List.Folds.{list_all-append};
-ghost use Rattle.limits.specs.Kept.{still_within};
-ghost use Rattle.limits.specs.SameGaps.{same_floor};
+ghost use Rattle.limits.specs.RuleLaws.{floor_keeps};
 
 use crate::breach::breach_unless;
 use crate::limit::Limit;
@@ -24,9 +19,9 @@ impl Limit for Floor {
 
     ghost breach = { λ l s. unless (above_floor l.gap s) };
 
-    ghost beginning = { λ l xs ys sel h. still_within (above_floor l.gap (xs ++ ys)) _ (λ e. (and_parts _ _ (sym (list_all-append (λ p. nat_le l.gap p.gap) xs ys) ∙ e)).0) h };
+    ghost beginning = { λ l xs ys _ h. (floor_keeps l.gap).begins xs ys h };
 
-    ghost lowered = { λ l xs ys _ sel low h. still_within (above_floor l.gap ys) _ (λ e. same_floor l.gap xs ys low ∙ e) h };
+    ghost lowered = { λ l xs ys _ sel low h. (floor_keeps l.gap).lowers xs ys sel low h };
 
     fn empty_load(&self) -> bool {
         true

@@ -1,10 +1,8 @@
-ghost use Rattle.std.specs.Prelude.{◌*◌, ◌++◌};
 ghost use Rattle.limits.specs.Breach.{unless};
 ghost use Rattle.limits.specs.Rules.{within_jitter};
 ghost use Rattle.limits.specs.Sums.{burst_bytes};
-ghost use Rattle.std.proofs.Common.{mul-le-mul_left};
-ghost use Rattle.limits.specs.Kept.{still_within, less_within};
 ghost use Rattle.limits.specs.SumLaws.{burst_adds};
+ghost use Rattle.limits.specs.RuleLaws.{jitter_keeps};
 
 use crate::breach::breach_unless;
 use crate::figure::{FrameBytes, with_pair};
@@ -25,9 +23,9 @@ impl Limit for Jitter {
 
     ghost breach = { λ l s. unless (within_jitter l.rate s) };
 
-    ghost beginning = { λ l xs ys sel h. still_within (within_jitter l.rate (xs ++ ys)) _ (less_within (400 * burst_bytes xs) _ (23 * l.rate) (mul-le-mul_left 400 (burst_adds.begins xs ys))) h };
+    ghost beginning = { λ l xs ys _ h. (jitter_keeps l.rate).begins xs ys h };
 
-    ghost lowered = { λ l xs ys _ sel low h. still_within (within_jitter l.rate ys) _ (less_within (400 * burst_bytes xs) _ (23 * l.rate) (mul-le-mul_left 400 (burst_adds.lowers xs ys sel low))) h };
+    ghost lowered = { λ l xs ys _ sel low h. (jitter_keeps l.rate).lowers xs ys sel low h };
 
     #[tactic(auto, using(crate::specs::SumLaws::burst_adds))]
     fn empty_load(&self) -> u32 {

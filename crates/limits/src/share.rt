@@ -1,9 +1,8 @@
-ghost use Rattle.std.specs.Prelude.{◌*◌, ◌++◌};
 ghost use Rattle.limits.specs.Breach.{unless};
 ghost use Rattle.limits.specs.Rules.{within_share};
 ghost use Rattle.limits.specs.Sums.{reserve};
-ghost use Rattle.limits.specs.Kept.{still_within, less_within};
 ghost use Rattle.limits.specs.SumLaws.{reserve_adds};
+ghost use Rattle.limits.specs.RuleLaws.{share_keeps};
 
 use crate::breach::breach_unless;
 use crate::figure::{Units, with_pair};
@@ -25,9 +24,9 @@ impl Limit for Share {
 
     ghost breach = { λ l s. unless (within_share l.rate s) };
 
-    ghost beginning = { λ l xs ys sel h. still_within (within_share l.rate (xs ++ ys)) _ (less_within (reserve xs) _ (16 * l.rate) (reserve_adds.begins xs ys)) h };
+    ghost beginning = { λ l xs ys _ h. (share_keeps l.rate).begins xs ys h };
 
-    ghost lowered = { λ l xs ys _ sel low h. still_within (within_share l.rate ys) _ (less_within (reserve xs) _ (16 * l.rate) (reserve_adds.lowers xs ys sel low)) h };
+    ghost lowered = { λ l xs ys _ sel low h. (share_keeps l.rate).lowers xs ys sel low h };
 
     #[tactic(auto, using(crate::specs::SumLaws::reserve_adds))]
     fn empty_load(&self) -> u32 {
