@@ -13,3 +13,4 @@ pub mod SolveFault
 pub mod Ending
 pub mod Promise
 pub mod Calls
+pub mod Issued

@@ -5,6 +5,7 @@ mod answer_table;
 pub mod call;
 mod check;
 mod first_failing;
+pub mod issued_plan;
 mod outcome;
 mod port_check;
 mod replay;
@@ -21,6 +22,7 @@ mod work_table;
 
 pub use call::{PlannerCall, SolveCall};
 pub use check::check_setting;
+pub use issued_plan::IssuedPlan;
 pub use port_check::check_port_setting;
 pub use replay::solve_after;
 pub use row::Row;

@@ -4,6 +4,8 @@
 #[cfg(test)]
 mod calls;
 #[cfg(test)]
+mod issued;
+#[cfg(test)]
 mod own;
 #[cfg(test)]
 mod plans;
