@@ -1,0 +1,10 @@
+pub mod Command
+pub mod ReaderFault
+pub mod Reading
+pub mod RunFault
+pub mod Told
+pub mod Lines
+pub mod Outcome
+pub mod State
+pub mod Run
+pub mod Script
