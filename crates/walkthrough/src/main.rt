@@ -16,9 +16,10 @@ use notes::{print_answer, print_call, print_standing};
 use offer::print_pairs;
 use order_book::ORDER_BOOK;
 use plan::Plan;
+use planner::IssuedPlan;
 use port::make_port;
 use settings::settings;
-use solve::{print_solve, print_solve_after};
+use solve::{print_issued_solve, print_solve, print_solve_after};
 use std::io;
 
 fn main(rt: HostRuntime) -> io::Result<()> {
@@ -45,7 +46,12 @@ fn main(rt: HostRuntime) -> io::Result<()> {
         return Ok(());
     };
     check_settings(&rt, &replayed, port)?;
-    ask_settings(&rt, &replayed, port)
+    ask_settings(&rt, &replayed, port)?;
+    println!(rt;
+        "12. Issue the plan. An issued plan admits no change, and is solved as a plan is. The same is offered."
+    )?;
+    let issued = IssuedPlan::issue(replayed);
+    print_issued_solve(&rt, &issued, port, 9)
 }
 
 /// Asks for the pairs of a link, and says what is offered.

@@ -2,7 +2,9 @@ use crate::check::print_use;
 use crate::notes::{print_accepted, print_refused, print_rows};
 use limits::{Limit, Measure, Port, PortLimit, Reserve, UNITS_PER_KBIT};
 use plan::{Call, Plan};
-use planner::{PlannerCall, Row, SolveCall, SolveFault, Solved, WorkRow, solve, solve_after};
+use planner::{
+    IssuedPlan, PlannerCall, Row, SolveCall, SolveFault, Solved, WorkRow, solve, solve_after,
+};
 use std::{array, io};
 
 /// A work table for two links and the row more that a solve asks for, by reserve under a port's limit.
@@ -15,14 +17,26 @@ pub(crate) fn print_solve(
     port: Port,
     allowance: u32,
 ) -> io::Result<()> {
-    println!(rt;
-        "   Solve at {} kbit/s, with at most {allowance} visits:",
-        port.rate()
-    )?;
+    print_question(rt, port, allowance)?;
     let limit = port.limit();
     let mut answer = [Row::default(); 2];
     let mut work = work_table(&limit);
     let told = solve(plan, &limit, &Reserve, allowance, &mut answer, &mut work);
+    print_offer(rt, port, told, &answer)
+}
+
+/// Solves an issued plan at the port by reserve, and says what is offered.
+pub(crate) fn print_issued_solve(
+    rt: &impl Print,
+    issued: &IssuedPlan,
+    port: Port,
+    allowance: u32,
+) -> io::Result<()> {
+    print_question(rt, port, allowance)?;
+    let limit = port.limit();
+    let mut answer = [Row::default(); 2];
+    let mut work = work_table(&limit);
+    let told = issued.solve(&limit, &Reserve, allowance, &mut answer, &mut work);
     print_offer(rt, port, told, &answer)
 }
 
@@ -43,6 +57,14 @@ pub(crate) fn print_solve_after(
     let mut work = work_table(&last.limit);
     let told = solve_after(&calls, &last, &mut answer, &mut work);
     print_offer(rt, port, told, &answer)
+}
+
+/// Says at which rate a solve is asked for, and with how many visits.
+fn print_question(rt: &impl Print, port: Port, allowance: u32) -> io::Result<()> {
+    println!(rt;
+        "   Solve at {} kbit/s, with at most {allowance} visits:",
+        port.rate()
+    )
 }
 
 /// A work table to begin with.
