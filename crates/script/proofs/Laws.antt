@@ -1,10 +1,11 @@
 -- The laws of a port's limit and of the two measures, and so the promise of every solve of a script.
-use Rattle.std.proofs.Common.{◌≡◌, ℕ, true, eqb, leb, List, [], ◌∷◌, ◌++◌, fold, length, refl, sym, inl, inr, arith, rules}
-use Rattle.std.proofs.lemmas.Bool.{and_from, lt-ltb, cases_Bool, cond-true, cond-false, eqb-true, le-leb}
+use Rattle.std.proofs.Common.{◌≡◌, ℕ, true, eqb, leb, List, [], ◌∷◌, ◌++◌, fold, refl, sym, inl, inr, rules}
+use Rattle.std.proofs.lemmas.Bool.{cases_Bool, cond-true, cond-false, eqb-true, le-leb}
 use Rattle.limits.specs.declared.pair.Pair.{Pair}
 use Rattle.limits.specs.Breach.{stacked}
 use Rattle.limits.specs.Burst.{burst, burst_at_most}
 use Rattle.limits.specs.BurstOrder.{smaller_burst}
+use Rattle.limits.specs.Gaps.{eight_gaps}
 use Rattle.limits.specs.Port.{PortLayers, layers_breach}
 use Rattle.limits.specs.RuleLaws.{floor_keeps, share_keeps, jitter_keeps}
 use Rattle.limits.specs.Selection.{Selection, Lowered}
@@ -15,14 +16,16 @@ use Rattle.plan.specs.History.{Event, Edit, Solve, after_event, ledger_of}
 use Rattle.plan.specs.Ledger.{answer, effect, after}
 use Rattle.plan.specs.Sound.{good}
 use Rattle.plan.specs.Standing.{Standing, nothing}
-use Rattle.plan.proofs.Good.{facts_from_good}
 use Rattle.plan.proofs.Keep.{keep}
+use Rattle.planner.specs.Ending.{ending}
+use Rattle.planner.specs.Named.{Aim}
 use Rattle.planner.proofs.Choices.{lawful_candidates}
 use Rattle.planner.proofs.Exchanged.{least_of_all}
 use Rattle.planner.proofs.Laws.{Laws, laws_of}
 use Rattle.planner.proofs.Promised.{promise_kept}
-use Rattle.script.specs.Script.{SolvesPromised}
-use Rattle.script.specs.Told.{answer_rows, answer_table, work_rows, solve_ending, reserve_aim, burst_aim}
+use Rattle.script.specs.Script.{SolvePromised, SolvesPromised}
+use Rattle.script.specs.Told.{reserve_aim, burst_aim}
+use Rattle.script.proofs.Offers.{told_by_ending}
 
 -- ---- what stands is sound
 good_after : (st : Standing) (call : Call) → good st ≡ true → good (after st call) ≡ true
@@ -46,13 +49,13 @@ stacked_keeps : (own below own' below' : ℕ) → (own ≡ 0 → own' ≡ 0) →
 stacked_keeps own below own' below' keeps keeps_below h = search rules
 
 module _ (limit : PortLayers) where
-  begins : (xs ys : List Pair) → Selection (xs ++ ys) → layers_breach limit (xs ++ ys) ≡ 0 → layers_breach limit xs ≡ 0
+  pub begins : (xs ys : List Pair) → Selection (xs ++ ys) → layers_breach limit (xs ++ ys) ≡ 0 → layers_breach limit xs ≡ 0
   begins xs ys _ =
       stacked_keeps _ _ _ _
       ((floor_keeps limit.rule.gap).begins xs ys)
       (stacked_keeps _ _ _ _ ((share_keeps limit.below.rule.rate).begins xs ys) (stacked_keeps _ 0 _ 0 ((jitter_keeps limit.below.below.rule.rate).begins xs ys) (λ e. e)))
 
-  lowers : (xs ys : List Pair) → Selection xs → Selection ys → Lowered xs ys → layers_breach limit ys ≡ 0 → layers_breach limit xs ≡ 0
+  pub lowers : (xs ys : List Pair) → Selection xs → Selection ys → Lowered xs ys → layers_breach limit ys ≡ 0 → layers_breach limit xs ≡ 0
   lowers xs ys _ sel low =
       stacked_keeps _ _ _ _
       ((floor_keeps limit.rule.gap).lowers xs ys sel low)
@@ -69,13 +72,15 @@ module _ (limit : PortLayers) where
       (λ xs ys _ sel low. smaller_burst (burst xs) (burst ys) (burst_adds.lowers xs ys sel low) (reserve_adds.lowers xs ys sel low))
 
 -- whatever the ledger says stands, a solve keeps its promise
+module _ {T : Type 0} (aim : Aim T) (laws : Laws aim) (done : List Event) (allowance : ℕ) where
+  one_promised : SolvePromised aim (ledger_of done) allowance
+  one_promised =
+      let st = ledger_of done in
+      let others = least_of_all aim laws _ (lawful_candidates st (good_ledger done)) in
+      record {
+        same = λ rows work_rows enough works. told_by_ending aim st others allowance work_rows rows enough works;
+        promised = λ rows work_rows. promise_kept aim st others allowance work_rows rows (ending eight_gaps aim st allowance work_rows rows) refl;
+      }
+
 pub solves_promised : SolvesPromised
-solves_promised limit done allowance =
-    let st = ledger_of done in
-    let lawful = lawful_candidates st (good_ledger done) in
-    let few = (facts_from_good st (good_ledger done)).few_links in
-    record {
-      long_enough = and_from _ _ (le-leb (length st.links) answer_rows few) (lt-ltb (length st.links) work_rows (omega (arith, few)));
-      by_reserve = promise_kept (reserve_aim limit) st (least_of_all _ (reserve_laws limit) _ lawful) allowance work_rows answer_table (solve_ending (reserve_aim limit) st allowance) refl;
-      by_burst = promise_kept (burst_aim limit) st (least_of_all _ (burst_laws limit) _ lawful) allowance work_rows answer_table (solve_ending (burst_aim limit) st allowance) refl;
-    }
+solves_promised limit done allowance = (one_promised (reserve_aim limit) (reserve_laws limit) done allowance, one_promised (burst_aim limit) (burst_laws limit) done allowance)

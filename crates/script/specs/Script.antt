@@ -6,6 +6,9 @@ use Rattle.limits.specs.Port.{PortLayers, layers_of}
 use Rattle.plan.specs.declared.call.Call.TheVariants as calls
 use Rattle.plan.specs.History.{Event, Edit as Edited, Solve as Solved, ledger_of}
 use Rattle.plan.specs.Standing.{Standing}
+use Rattle.planner.specs.declared.row.Row.{Row}
+use Rattle.planner.specs.Ending.{ending}
+use Rattle.planner.specs.Named.{Aim}
 use Rattle.planner.specs.Promise.{Promised}
 use Rattle.script.specs.declared.command.Command.{Command}
 use Rattle.script.specs.declared.command.Command.TheVariants.{Port, Edit, Solve}
@@ -16,7 +19,7 @@ use Rattle.script.specs.Lines.{told_lines}
 use Rattle.script.specs.Reading.{script_max, reading}
 use Rattle.script.specs.ReaderFault.{number, detail}
 use Rattle.script.specs.State.{State, next_told, next_state, fault_command, ends}
-use Rattle.script.specs.Told.{Told, told, refused, answer_rows, work_rows, solve_ending, reserve_aim, burst_aim}
+use Rattle.script.specs.Told.{Told, told, refused, of_ending, solve_told, reserve_aim, burst_aim}
 
 -- what is read behind the last command: the end of the script, or the fault that refuses the rest of it
 abbrev pub last_read : Option ReaderFault → Result (Option PlacedCommand) ReaderFault
@@ -130,13 +133,14 @@ ReadIsWritten script =
     (cs : List Command) (fault : Option ReaderFault) → Reads script 0 cs fault
     → (rest : List ℕ) × (script ≡ flat_map spelled cs ++ rest) × (fault ≡ None → rest ≡ [])
 
--- the tables of a solve are long enough, so that 14 and 15 are never told, and a solve keeps the promise of a solve, by the
--- reserve and by the burst
-pub record SolvePromised (limit : PortLayers) (st : Standing) (allowance : ℕ) : Type 0 where
-  pub long_enough : (nat_le (length st.links) answer_rows && nat_lt (length st.links) work_rows) ≡ true
-  pub by_reserve : Promised eight_gaps (reserve_aim limit) st allowance answer_rows work_rows (solve_ending (reserve_aim limit) st allowance)
-  pub by_burst : Promised eight_gaps (burst_aim limit) st allowance answer_rows work_rows (solve_ending (burst_aim limit) st allowance)
+-- a solve with whatever tables that are long enough tells the same, and keeps the promise of a solve
+pub record SolvePromised {T : Type 0} (aim : Aim T) (st : Standing) (allowance : ℕ) : Type 0 where
+  pub same : (rows : List Row) (work_rows : ℕ) → nat_le (length st.links) (length rows) ≡ true → nat_lt (length st.links) work_rows ≡ true
+      → of_ending st (ending eight_gaps aim st allowance work_rows rows) ≡ solve_told aim st allowance
+  pub promised : (rows : List Row) (work_rows : ℕ) → Promised eight_gaps aim st allowance (length rows) work_rows (ending eight_gaps aim st allowance work_rows rows)
 
--- whatever the ledger says stands, a solve of a script keeps the promise of a solve, by either measure
+-- whatever the ledger says stands, a solve by the reserve and one by the burst keep their promise
 abbrev pub SolvesPromised : Type 0
-SolvesPromised = (limit : PortLayers) (done : List Event) (allowance : ℕ) → SolvePromised limit (ledger_of done) allowance
+SolvesPromised =
+    (limit : PortLayers) (done : List Event) (allowance : ℕ)
+    → SolvePromised (reserve_aim limit) (ledger_of done) allowance × SolvePromised (burst_aim limit) (ledger_of done) allowance

@@ -1,5 +1,6 @@
 -- What a run tells of a command.
-use Rattle.std.specs.Prelude.{ℕ, if◌then◌else◌, List, replicate, Some, None, Option, ◌==◌, nat_le}
+use Rattle.std.specs.Prelude.{ℕ, if◌then◌else◌, List, [], ◌∷◌, Some, None, Option, ◌==◌, nat_le}
+use Rattle.std.specs.List.{list_any}
 use Rattle.std.specs.Option.{option_map}
 use Rattle.limits.specs.declared.burst_total.BurstTotal.{BurstTotal}
 use Rattle.limits.specs.Burst.{burst, burst_at_most}
@@ -8,12 +9,16 @@ use Rattle.limits.specs.Port.{PortLayers, layers_breach}
 use Rattle.limits.specs.PortFigures.{port_answer}
 use Rattle.limits.specs.Sums.{burst_bytes, reserve}
 use Rattle.plan.specs.Ledger.{answer}
+use Rattle.plan.specs.Queries.{first_without_flow}
 use Rattle.plan.specs.Standing.{Standing}
 use Rattle.planner.specs.declared.row.Row.{Row}
-use Rattle.planner.specs.Ending.{Ending, ending}
-use Rattle.planner.specs.Named.{Aim, aim_of}
+use Rattle.planner.specs.Asked.{Asked, refusal}
+use Rattle.planner.specs.Choice.{link_candidates, first_without_candidate}
+use Rattle.planner.specs.Ending.{Ending, rows_of}
+use Rattle.planner.specs.Named.{Aim, aim_of, visits, named}
 use Rattle.planner.specs.Promise.{link_rows}
-use Rattle.planner.specs.Setting.{pairs}
+use Rattle.planner.specs.Selections.{complete}
+use Rattle.planner.specs.Setting.{pairs, plainly}
 use Rattle.script.specs.declared.command.Command.{Command}
 use Rattle.script.specs.declared.command.Command.TheVariants.{Port, Edit, Solve}
 use Rattle.script.specs.declared.offer.Offer.{Offer}
@@ -44,25 +49,28 @@ offer_of rows visits =
 abbrev pub of_ending : {T : Type 0} → Standing → Ending T → Told
 of_ending st e = record { refusal = e.refusal; offer = option_map (λ report. offer_of (link_rows st e.rows) report.visits) e.report }
 
--- how many rows of an answer table any plan needs at most
-abbrev pub answer_rows : ℕ
-answer_rows = 64
+-- what a solve is asked whose tables are long enough: has every link a flow, has every link a candidate, are the visits at most the
+-- allowance, and is some complete selection within the limit?
+abbrev pub run_questions : {T : Type 0} → Aim T → Standing → ℕ → Asked
+run_questions aim st allowance =
+    (13, first_without_flow st)
+    ∷ (16, first_without_candidate eight_gaps st)
+    ∷ (17, plainly (nat_le (visits aim (link_candidates eight_gaps st)) allowance))
+    ∷ (18, plainly (list_any aim.within (complete (link_candidates eight_gaps st))))
+    ∷ []
 
--- how many rows of a work table any plan needs at most
-abbrev pub work_rows : ℕ
-work_rows = 65
+-- what the named setting offers, if there is one: each link with its pair
+abbrev pub named_offer : {T : Type 0} → Aim T → Standing → Option Offer
+named_offer aim st =
+    option_map (λ s. offer_of (rows_of st.links s) (visits aim (link_candidates eight_gaps st))) (named aim (link_candidates eight_gaps st))
 
--- the answer table that a solve of a run begins with: nothing of it is told but the rows that the solve writes
-abbrev pub answer_table : List Row
-answer_table = replicate answer_rows (record { link = 0; pair = record { gap = 0; mtu = 0 } })
+-- what is told where this is the first refusal, if it is one: without one, what the named setting offers
+abbrev pub told_unless : {T : Type 0} → Aim T → Standing → ℕ × ℕ → Told
+told_unless aim st r = record { refusal = r; offer = if r.0 == 0 then named_offer aim st else None }
 
--- how a solve ends with these tables
-abbrev pub solve_ending : {T : Type 0} → Aim T → Standing → ℕ → Ending T
-solve_ending aim st allowance = ending eight_gaps aim st allowance work_rows answer_table
-
--- what is told of a solve with this aim
+-- what is told of a solve with this aim: the first question that is answered no refuses it, and else it offers the named setting
 abbrev pub solve_told : {T : Type 0} → Aim T → Standing → ℕ → Told
-solve_told aim st allowance = of_ending st (solve_ending aim st allowance)
+solve_told aim st allowance = told_unless aim st (refusal (run_questions aim st allowance))
 
 -- least reserve under the limit of a port
 abbrev pub reserve_aim : PortLayers → Aim ℕ
