@@ -27,7 +27,8 @@ module _ (figure : Pair → ℕ) (most : ℕ) (rises : (p q : Pair) → Lawful q
   lowered (x ∷ xs) (y ∷ ys) h low =
       omega (arith, sum_by-cons figure x xs, sum_by-cons figure y ys, rises x y h.0 low.0, lowered xs ys h.1 low.1)
 
-  adds : Adds (sum_by figure) figure most
+  -- a sum of such a figure adds it up
+  pub adds : Adds (sum_by figure) figure most
   adds = record {
     none = refl;
     cons = sum_by-cons figure;

@@ -1,11 +1,11 @@
 ghost use Rattle.std.specs.Prelude.{◌++◌};
-ghost use Rattle.limits.specs.Burst.{burst, burst_at_most};
+ghost use Rattle.limits.specs.Burst.{burst, burst_of_pair, burst_at_most};
 ghost use Rattle.limits.specs.BurstOrder.{smaller_burst};
 ghost use Rattle.limits.specs.SumLaws.{burst_adds, reserve_adds};
 ghost use Rattle.std.proofs.Common.{rules};
 
 use crate::burst_total::BurstTotal;
-use crate::figure::{FrameBytes, Units, with_pair};
+use crate::figure::{Figure, FrameBytes, Units, with_pair};
 use crate::measure::Measure;
 use crate::pair::Pair;
 
@@ -16,7 +16,11 @@ pub struct Burst;
 impl Measure for Burst {
     type Total = BurstTotal;
 
+    type Cost = BurstTotal;
+
     ghost totalled = { λ m s. burst s };
+
+    ghost costed = { λ m p. burst_of_pair p };
 
     ghost atmost = { λ m x y. burst_at_most x y };
 
@@ -33,10 +37,17 @@ impl Measure for Burst {
         BurstTotal { bytes: 0, units: 0 }
     }
 
-    fn total_with(&self, total: BurstTotal, pair: Pair) -> BurstTotal {
+    fn cost_of(&self, pair: Pair) -> BurstTotal {
         BurstTotal {
-            bytes: with_pair::<FrameBytes>(total.bytes, pair),
-            units: with_pair::<Units>(total.units, pair),
+            bytes: FrameBytes::of(pair),
+            units: Units::of(pair),
+        }
+    }
+
+    fn total_with(&self, total: BurstTotal, pair: Pair, cost: BurstTotal) -> BurstTotal {
+        BurstTotal {
+            bytes: with_pair::<FrameBytes>(total.bytes, pair, cost.bytes),
+            units: with_pair::<Units>(total.units, pair, cost.units),
         }
     }
 

@@ -69,10 +69,11 @@ impl Figure for Units {
     }
 }
 
-/// What the figures of a selection come to with one more pair.
-pub(crate) fn with_pair<F: Figure>(sum: u32, pair: Pair) -> u32
-    requires { MayTake F.total sum pair }
+/// What the figures of a selection come to with one more pair, from the pair's own figure. The pair itself is only spoken of.
+pub(crate) fn with_pair<F: Figure>(sum: u32, pair: Pair, figure: u32) -> u32
+    requires sum { MayTake F.total sum pair }
+    requires figure { figure ≡ F.figure pair }
     ensures { Takes F.total sum pair result }
 {
-    sum + F::of(pair)
+    sum + figure
 }

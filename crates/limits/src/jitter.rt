@@ -1,11 +1,12 @@
 ghost use Rattle.limits.specs.Breach.{unless};
+ghost use Rattle.limits.specs.Frame.{frame};
 ghost use Rattle.limits.specs.Rules.{within_jitter};
 ghost use Rattle.limits.specs.Sums.{burst_bytes};
 ghost use Rattle.limits.specs.SumLaws.{burst_adds};
 ghost use Rattle.limits.specs.RuleLaws.{jitter_keeps};
 
 use crate::breach::breach_unless;
-use crate::figure::{FrameBytes, with_pair};
+use crate::figure::{Figure, FrameBytes, with_pair};
 use crate::limit::Limit;
 use crate::pair::Pair;
 
@@ -19,7 +20,11 @@ pub struct Jitter {
 impl Limit for Jitter {
     type Load = u32;
 
+    type Weight = u32;
+
     ghost loaded = { λ l s. burst_bytes s };
+
+    ghost weighed = { λ l p. frame p };
 
     ghost breach = { λ l s. unless (within_jitter l.rate s) };
 
@@ -32,8 +37,12 @@ impl Limit for Jitter {
         0
     }
 
-    fn load_with(&self, load: u32, pair: Pair) -> u32 {
-        with_pair::<FrameBytes>(load, pair)
+    fn weight_of(&self, pair: Pair) -> u32 {
+        FrameBytes::of(pair)
+    }
+
+    fn load_with(&self, load: u32, pair: Pair, weight: u32) -> u32 {
+        with_pair::<FrameBytes>(load, pair, weight)
     }
 
     fn breach_of(&self, load: u32) -> u32 {

@@ -21,13 +21,24 @@ pub struct LayerLoad<A, B> {
     below: B,
 }
 
+/// The weight of a pair under a layer: that by its rule beside that by the limit below.
+#[derive(Clone, Copy, Debug, PartialEq, Eq)]
+pub struct LayerWeight<A, B> {
+    rule: A,
+    below: B,
+}
+
 impl<R: Limit, L: Limit> Limit for Layer<R, L> {
     // here, since it speaks of the types of this file
-    ghost use Rattle.limits.specs.Layer.{layer_load};
+    ghost use Rattle.limits.specs.Layer.{layer_load, layer_weight};
 
     type Load = LayerLoad<R::Load, L::Load>;
 
+    type Weight = LayerWeight<R::Weight, L::Weight>;
+
     ghost loaded = { λ l s. layer_load (R.Limit.loaded l.rule) (L.Limit.loaded l.below) s };
+
+    ghost weighed = { λ l p. layer_weight (R.Limit.weighed l.rule) (L.Limit.weighed l.below) p };
 
     ghost breach = { λ l s. stacked (R.Limit.breach l.rule s) (L.Limit.breach l.below s) };
 
@@ -42,14 +53,22 @@ impl<R: Limit, L: Limit> Limit for Layer<R, L> {
         }
     }
 
+    fn weight_of(&self, pair: Pair) -> LayerWeight<R::Weight, L::Weight> {
+        LayerWeight {
+            rule: self.rule.weight_of(pair),
+            below: self.below.weight_of(pair),
+        }
+    }
+
     fn load_with(
         &self,
         load: LayerLoad<R::Load, L::Load>,
         pair: Pair,
+        weight: LayerWeight<R::Weight, L::Weight>,
     ) -> LayerLoad<R::Load, L::Load> {
         LayerLoad {
-            rule: self.rule.load_with(load.rule, pair),
-            below: self.below.load_with(load.below, pair),
+            rule: self.rule.load_with(load.rule, pair, weight.rule),
+            below: self.below.load_with(load.below, pair, weight.below),
         }
     }
 

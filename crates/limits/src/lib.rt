@@ -26,7 +26,7 @@ pub use floor::Floor;
 pub use frame::UNITS_PER_KBIT;
 pub use gaps::{GAP_COUNT, GAPS};
 pub use jitter::Jitter;
-pub use layer::{Layer, LayerLoad};
+pub use layer::{Layer, LayerLoad, LayerWeight};
 pub use limit::Limit;
 pub use measure::Measure;
 pub use open::Open;

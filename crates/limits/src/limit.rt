@@ -1,6 +1,6 @@
 ghost use Rattle.std.specs.Prelude.{◌≡◌, ℕ, List, [], ◌++◌};
 ghost use Rattle.limits.specs.declared.pair.Pair.{Pair};
-ghost use Rattle.limits.specs.Selection.{Selection, Lowered};
+ghost use Rattle.limits.specs.Selection.{Lawful, Selection, Lowered};
 ghost use Rattle.limits.specs.Taken.{IsKept, HoldsOfKept, MayTake, Takes};
 
 use crate::pair::Pair;
@@ -11,8 +11,14 @@ pub trait Limit {
     /// What is kept of a selection to tell its breach and the load with one more pair.
     type Load: Copy;
 
+    /// What a pair adds to a load. It is found once for a pair that many selections take.
+    type Weight: Copy;
+
     /// The load of a selection.
     ghost loaded: { Self → List Pair → Self.Load };
+
+    /// The weight of a pair.
+    ghost weighed: { Self → Pair → Self.Weight };
 
     /// The breach of a selection.
     ghost breach: { Self → List Pair → ℕ };
@@ -21,9 +27,15 @@ pub trait Limit {
     fn empty_load(&self) -> Self::Load
         ensures { result ≡ loaded self.now [] };
 
-    /// The load of a selection with one more pair, from its load.
-    fn load_with(&self, load: Self::Load, pair: Pair) -> Self::Load
-        requires { MayTake (loaded self.now) load pair }
+    /// The weight of a lawful pair.
+    fn weight_of(&self, pair: Pair) -> Self::Weight
+        requires { Lawful pair }
+        ensures { result ≡ weighed self.now pair };
+
+    /// The load of a selection with one more pair, from its load and the pair's weight.
+    fn load_with(&self, load: Self::Load, pair: Pair, weight: Self::Weight) -> Self::Load
+        requires load { MayTake (loaded self.now) load pair }
+        requires weight { weight ≡ weighed self.now pair }
         ensures { Takes (loaded self.now) load pair result };
 
     /// The breach of a selection, from its load: a number, since layers count it up and a refusal tells it.

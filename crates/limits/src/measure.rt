@@ -1,6 +1,6 @@
 ghost use Rattle.std.specs.Prelude.{◌≡◌, Bool, true, false, List, [], ◌++◌};
 ghost use Rattle.limits.specs.declared.pair.Pair.{Pair};
-ghost use Rattle.limits.specs.Selection.{Selection, Lowered};
+ghost use Rattle.limits.specs.Selection.{Lawful, Selection, Lowered};
 ghost use Rattle.limits.specs.Taken.{MayTake, Takes};
 
 use crate::pair::Pair;
@@ -11,8 +11,14 @@ pub trait Measure {
     /// What a selection comes to.
     type Total: Copy;
 
+    /// What a pair adds to a total. It is found once for a pair that many selections take.
+    type Cost: Copy;
+
     /// The total of a selection.
     ghost totalled: { Self → List Pair → Self.Total };
+
+    /// The cost of a pair.
+    ghost costed: { Self → Pair → Self.Cost };
 
     /// The first total is no more than the second.
     ghost atmost: { Self → Self.Total → Self.Total → Bool };
@@ -21,9 +27,15 @@ pub trait Measure {
     fn empty_total(&self) -> Self::Total
         ensures { result ≡ totalled self.now [] };
 
-    /// The total of a selection with one more pair, from its total.
-    fn total_with(&self, total: Self::Total, pair: Pair) -> Self::Total
-        requires { MayTake (totalled self.now) total pair }
+    /// The cost of a lawful pair.
+    fn cost_of(&self, pair: Pair) -> Self::Cost
+        requires { Lawful pair }
+        ensures { result ≡ costed self.now pair };
+
+    /// The total of a selection with one more pair, from its total and the pair's cost.
+    fn total_with(&self, total: Self::Total, pair: Pair, cost: Self::Cost) -> Self::Total
+        requires total { MayTake (totalled self.now) total pair }
+        requires cost { cost ≡ costed self.now pair }
         ensures { Takes (totalled self.now) total pair result };
 
     /// Is the first total no more than the second?

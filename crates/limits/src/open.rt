@@ -10,7 +10,11 @@ pub struct Open;
 impl Limit for Open {
     type Load = ();
 
+    type Weight = ();
+
     ghost loaded = { λ l s. tt };
+
+    ghost weighed = { λ l p. tt };
 
     ghost breach = { λ l s. 0 };
 
@@ -20,7 +24,9 @@ impl Limit for Open {
 
     fn empty_load(&self) {}
 
-    fn load_with(&self, _load: (), _pair: Pair) {}
+    fn weight_of(&self, _pair: Pair) {}
+
+    fn load_with(&self, _load: (), _pair: Pair, _weight: ()) {}
 
     fn breach_of(&self, _load: ()) -> u32 {
         0

@@ -1,10 +1,11 @@
 ghost use Rattle.std.specs.Prelude.{◌++◌, nat_le};
+ghost use Rattle.limits.specs.Frame.{units};
 ghost use Rattle.limits.specs.Sums.{reserve};
 ghost use Rattle.std.proofs.lemmas.Bool.{le-leb};
 ghost use Rattle.limits.specs.SumLaws.{reserve_adds};
 ghost use Rattle.std.proofs.Common.{rules};
 
-use crate::figure::{Units, with_pair};
+use crate::figure::{Figure, Units, with_pair};
 use crate::measure::Measure;
 use crate::pair::Pair;
 
@@ -15,7 +16,11 @@ pub struct Reserve;
 impl Measure for Reserve {
     type Total = u32;
 
+    type Cost = u32;
+
     ghost totalled = { λ m s. reserve s };
+
+    ghost costed = { λ m p. units p };
 
     ghost atmost = { λ m x y. nat_le x y };
 
@@ -32,8 +37,12 @@ impl Measure for Reserve {
         0
     }
 
-    fn total_with(&self, total: u32, pair: Pair) -> u32 {
-        with_pair::<Units>(total, pair)
+    fn cost_of(&self, pair: Pair) -> u32 {
+        Units::of(pair)
+    }
+
+    fn total_with(&self, total: u32, pair: Pair, cost: u32) -> u32 {
+        with_pair::<Units>(total, pair, cost)
     }
 
     fn no_more(&self, x: u32, y: u32) -> bool {

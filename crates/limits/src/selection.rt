@@ -27,7 +27,7 @@ fn breach_of_selection<L: Limit>(limit: &L, pairs: &[Pair]) -> u32
 {
     let mut load = limit.empty_load();
     for pair in pairs {
-        load = limit.load_with(load, *pair);
+        load = limit.load_with(load, *pair, limit.weight_of(*pair));
     }
     limit.breach_of(load)
 }
@@ -51,7 +51,7 @@ fn total_of_selection<M: Measure>(measure: &M, pairs: &[Pair]) -> M::Total
     // as the loop above: a `fold`, or one function for both, takes each step as a closure with two clauses, and is no plainer
     let mut total = measure.empty_total();
     for pair in pairs {
-        total = measure.total_with(total, *pair);
+        total = measure.total_with(total, *pair, measure.cost_of(*pair));
     }
     total
 }

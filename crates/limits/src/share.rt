@@ -1,11 +1,12 @@
 ghost use Rattle.limits.specs.Breach.{unless};
+ghost use Rattle.limits.specs.Frame.{units};
 ghost use Rattle.limits.specs.Rules.{within_share};
 ghost use Rattle.limits.specs.Sums.{reserve};
 ghost use Rattle.limits.specs.SumLaws.{reserve_adds};
 ghost use Rattle.limits.specs.RuleLaws.{share_keeps};
 
 use crate::breach::breach_unless;
-use crate::figure::{Units, with_pair};
+use crate::figure::{Figure, Units, with_pair};
 use crate::frame::UNITS_PER_KBIT;
 use crate::limit::Limit;
 use crate::pair::Pair;
@@ -20,7 +21,11 @@ pub struct Share {
 impl Limit for Share {
     type Load = u32;
 
+    type Weight = u32;
+
     ghost loaded = { λ l s. reserve s };
+
+    ghost weighed = { λ l p. units p };
 
     ghost breach = { λ l s. unless (within_share l.rate s) };
 
@@ -33,8 +38,12 @@ impl Limit for Share {
         0
     }
 
-    fn load_with(&self, load: u32, pair: Pair) -> u32 {
-        with_pair::<Units>(load, pair)
+    fn weight_of(&self, pair: Pair) -> u32 {
+        Units::of(pair)
+    }
+
+    fn load_with(&self, load: u32, pair: Pair, weight: u32) -> u32 {
+        with_pair::<Units>(load, pair, weight)
     }
 
     fn breach_of(&self, load: u32) -> u32 {

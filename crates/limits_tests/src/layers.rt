@@ -11,7 +11,11 @@ struct Always {
 impl Limit for Always {
     type Load = ();
 
+    type Weight = ();
+
     ghost loaded = { λ l s. tt };
+
+    ghost weighed = { λ l p. tt };
 
     ghost breach = { λ l s. l.breach };
 
@@ -21,7 +25,9 @@ impl Limit for Always {
 
     fn empty_load(&self) {}
 
-    fn load_with(&self, _load: (), _pair: Pair) {}
+    fn weight_of(&self, _pair: Pair) {}
+
+    fn load_with(&self, _load: (), _pair: Pair, _weight: ()) {}
 
     fn breach_of(&self, _load: ()) -> u32 {
         self.breach

@@ -1,4 +1,5 @@
 pub mod Failing
+pub mod Fits
 pub mod Names
 pub mod Lawful
 pub mod Fractions

@@ -8,8 +8,8 @@ use Rattle.limits.specs.declared.pair.Pair.{Pair}
 use Rattle.limits.specs.Selection.{Lawful, Selection}
 use Rattle.planner.specs.declared.outcome.Outcome.{Outcome}
 use Rattle.planner.specs.declared.outcome.Outcome.TheVariants.{Spent, NoneWithin, Found}
-use Rattle.planner.specs.declared.work_row.Level.{Level}
-use Rattle.planner.specs.declared.work_row.WorkRow.{WorkRow}
+use Rattle.planner.specs.declared.search_row.Level.{Level}
+use Rattle.planner.specs.declared.search_row.SearchRow.{SearchRow}
 use Rattle.planner.specs.Named.{Aim, visits, named}
 use Rattle.planner.specs.Outcome.{told_of, outcome, placed}
 use Rattle.planner.specs.Selections.{partial}
@@ -42,12 +42,12 @@ pub record Reached {B T : Type 0} (loaded : List Pair → B) (a : Aim T) (s : Li
   pub few : level.tried ≤ 8
 
 -- so is each row above
-abbrev AllReached : {B T : Type 0} → (List Pair → B) → Aim T → List (WorkRow B T) → Type 0
+abbrev AllReached : {B T W C : Type 0} → (List Pair → B) → Aim T → List (SearchRow B T W C) → Type 0
 AllReached loaded a [] = Unit {0}
 AllReached loaded a (r ∷ rs) = Reached loaded a (base rs) r.level × AllReached loaded a rs
 
 -- where the search stands between two turns, before it looks whether the best so far closes the level
-pub record Stands {B T : Type 0} (loaded : List Pair → B) (a : Aim T) (cs : List (List Pair)) (allowance : ℕ) (old : List Pair) (here : Level B T) (rs : List (WorkRow B T)) (best : Option T) (setting : List Pair) (v : ℕ) : Type 0 where
+pub record Stands {B T W C : Type 0} (loaded : List Pair → B) (a : Aim T) (cs : List (List Pair)) (allowance : ℕ) (old : List Pair) (here : Level B T) (rs : List (SearchRow B T W C)) (best : Option T) (setting : List Pair) (v : ℕ) : Type 0 where
   pub deep : length rs < length cs
   pub room : length cs ≤ length setting
   pub reached : Reached loaded a (base rs) here
@@ -60,7 +60,7 @@ pub record Stands {B T : Type 0} (loaded : List Pair → B) (a : Aim T) (cs : Li
   pub owes : Owes a cs found v (level_left cs here rs ++ rows_left cs rs)
 
 -- the same, with a level that the best so far does not close
-pub record Holds {B T : Type 0} (loaded : List Pair → B) (a : Aim T) (cs : List (List Pair)) (allowance : ℕ) (old : List Pair) (here : Level B T) (rs : List (WorkRow B T)) (best : Option T) (setting : List Pair) (v : ℕ) : Type 0 where
+pub record Holds {B T W C : Type 0} (loaded : List Pair → B) (a : Aim T) (cs : List (List Pair)) (allowance : ℕ) (old : List Pair) (here : Level B T) (rs : List (SearchRow B T W C)) (best : Option T) (setting : List Pair) (v : ℕ) : Type 0 where
   pub stands : Stands loaded a cs allowance old here rs best setting v
   pub unbeaten : here.tried < 8 → beats a stands.found (base rs) ≡ false
 
@@ -77,24 +77,32 @@ beaten_is a (Some x) best total s b t = ap₂ (λ o y. beaten a o y) b t
 abbrev pub closed : {B T : Type 0} → Bool → Level B T → Level B T
 closed k level = if k then record { load = level.load; total = level.total; tried = 8 } else level
 
-module _ {B T : Type 0} (loaded : List Pair → B) (a : Aim T) (cs : List (List Pair)) (laws : Laws a) (lawful : LawfulCandidates cs) (allowance : ℕ) (old : List Pair) where
+-- what the search tells at its end, by the best total and the visits
+abbrev pub told : {T : Type 0} → Option T → ℕ → Outcome T
+told best v = option_map_or (λ total. Found total v) best (NoneWithin v)
+
+told_found : {T : Type 0} (a : Aim T) (found : Option (List Pair)) (best : Option T) (v : ℕ) → best ≡ option_map a.total found → told best v ≡ told_of a v found
+told_found a None best v b = ap (λ o. told o v) b
+told_found a (Some s) best v b = ap (λ o. told o v) b
+
+module _ {B T W C : Type 0} (loaded : List Pair → B) (a : Aim T) (cs : List (List Pair)) (laws : Laws a) (lawful : LawfulCandidates cs) (allowance : ℕ) (old : List Pair) where
   -- a row whose candidates are used up has nothing left
-  used_up : (level : Level B T) (rs : List (WorkRow B T)) → length (row_of cs rs) ≤ level.tried → level_left cs level rs ≡ []
+  used_up : (level : Level B T) (rs : List (SearchRow B T W C)) → length (row_of cs rs) ≤ level.tried → level_left cs level rs ≡ []
   used_up level rs h = ap (λ c. nodes (base rs) c (below_of cs rs)) (drop_all level.tried (row_of cs rs) h)
 
   -- below a level that is beaten nothing is left to visit
-  level_idle : (b : Option (List Pair)) (level : Level B T) (rs : List (WorkRow B T)) → AllByRecursion Lawful (base rs) → length (base rs) ≡ length rs → length rs < length cs → Lost a cs b (base rs) → AllByRecursion (Idle a cs b) (level_left cs level rs)
+  level_idle : (b : Option (List Pair)) (level : Level B T) (rs : List (SearchRow B T W C)) → AllByRecursion Lawful (base rs) → length (base rs) ≡ length rs → length rs < length cs → Lost a cs b (base rs) → AllByRecursion (Idle a cs b) (level_left cs level rs)
   level_idle b level rs l e deep lost =
       let f = lawful.few in
       idle_all a cs laws b (base rs) (drop level.tried (row_of cs rs) ∷ below_of cs rs) l
       (All-drop Lawful level.tried (row_of cs rs) (lawful_at cs (length rs) lawful.lawful), All-drop (λ c. AllByRecursion Lawful c) (suc (length rs)) cs lawful.lawful)
       (omega (arith, length-drop (suc (length rs)) cs)) lost
 
-  base_length : (rs : List (WorkRow B T)) → length (base rs) ≡ length rs
+  base_length : (rs : List (SearchRow B T W C)) → length (base rs) ≡ length rs
   base_length [] = refl
   base_length (r ∷ rs) = omega (arith, length-append (base rs) (r.pair ∷ []), base_length rs)
 
-  module _ {here : Level B T} {rs : List (WorkRow B T)} {best : Option T} {setting : List Pair} {v : ℕ} where
+  module _ {here : Level B T} {rs : List (SearchRow B T W C)} {best : Option T} {setting : List Pair} {v : ℕ} where
     close_by : (st : Stands loaded a cs allowance old here rs best setting v) (k : Bool) → k ≡ beats a st.found (base rs) → Holds loaded a cs allowance old (closed k here) rs best setting v
     close_by st false e = record { stands = st; unbeaten = λ _. sym e }
     close_by st true e =
@@ -122,7 +130,7 @@ module _ {B T : Type 0} (loaded : List Pair → B) (a : Aim T) (cs : List (List 
     close st = close_by st (beaten a best here.total) (beaten_is a st.found best here.total (base rs) st.best_is st.reached.total)
 
     -- a row is left for the one above it
-    pub leave : {r : WorkRow B T} → Holds loaded a cs allowance old here (r ∷ rs) best setting v → length (row_of cs (r ∷ rs)) ≤ here.tried → Stands loaded a cs allowance old r.level rs best setting v
+    pub leave : {r : SearchRow B T W C} → Holds loaded a cs allowance old here (r ∷ rs) best setting v → length (row_of cs (r ∷ rs)) ≤ here.tried → Stands loaded a cs allowance old r.level rs best setting v
     leave {r} h used =
         let st = h.stands in
         let deep = st.deep in
@@ -140,15 +148,7 @@ module _ {B T : Type 0} (loaded : List Pair → B) (a : Aim T) (cs : List (List 
         }
 
   -- the search is over
-  -- what the search tells at its end, by the best total and the visits
-  abbrev pub told : Option T → ℕ → Outcome T
-  told best v = option_map_or (λ total. Found total v) best (NoneWithin v)
-
-  told_found : (found : Option (List Pair)) (best : Option T) (v : ℕ) → best ≡ option_map a.total found → told best v ≡ told_of a v found
-  told_found None best v b = ap (λ o. told o v) b
-  told_found (Some s) best v b = ap (λ o. told o v) b
-
-  module _ {here : Level B T} {best : Option T} {setting : List Pair} {v : ℕ} (h : Holds loaded a cs allowance old here [] best setting v) (used : length (get_or cs 0 []) ≤ here.tried) where
+  module _ {here : Level B T} {best : Option T} {setting : List Pair} {v : ℕ} (h : Holds {W = W} {C = C} loaded a cs allowance old here [] best setting v) (used : length (get_or cs 0 []) ≤ here.tried) where
     end_owes : Owes a cs h.stands.found v []
     end_owes = subst (λ ps. Owes a cs h.stands.found v (ps ++ [])) (used_up here [] used) h.stands.owes
 
@@ -165,14 +165,14 @@ module _ {B T : Type 0} (loaded : List Pair → B) (a : Aim T) (cs : List (List 
         let c = end_owes.count in
         let spare = st.spare in
         let all : v ≡ visits a cs = omega (arith, seens_all a laws.ranks cs some_links lawful) in
-        told_found st.found best v st.best_is ∙ told_unspent a cs allowance v st.found all spare named_found
+        told_found a st.found best v st.best_is ∙ told_unspent a cs allowance v st.found all spare named_found
 
     -- and the places hold the named setting
     pub end_placed : setting ≡ placed (named a cs) old
     end_placed = h.stands.setting_is ∙ ap (λ o. placed o old) (sym named_found)
 
   -- the start
-  pub start : (here : Level B T) → 0 < length cs → length cs ≤ length old → here.load ≡ loaded [] → here.total ≡ a.total [] → here.tried ≡ 0 → a.within [] ≡ true → Holds loaded a cs allowance old here [] None old 0
+  pub start : (here : Level B T) → 0 < length cs → length cs ≤ length old → here.load ≡ loaded [] → here.total ≡ a.total [] → here.tried ≡ 0 → a.within [] ≡ true → Holds {W = W} {C = C} loaded a cs allowance old here [] None old 0
   start here some room load total fresh within =
       record {
         stands = record {
@@ -194,11 +194,11 @@ module _ {B T : Type 0} (loaded : List Pair → B) (a : Aim T) (cs : List (List 
       from_first [] l = absurd (omega arith)
       from_first (d ∷ ds) l = from_nothing (partial (d ∷ ds))
 
-      all_left : (ds : List (List Pair)) → 0 < length ds → level_left ds here [] ++ [] ≡ partial ds
+      all_left : (ds : List (List Pair)) → 0 < length ds → level_left {W = W} {C = C} ds here [] ++ [] ≡ partial ds
       all_left ds l = ap (λ n. map (λ y. [] ++ y) (partial (drop n (get_or ds 0 []) ∷ drop 1 ds)) ++ []) fresh ∙ from_first ds l
 
   -- a turn that visits the next candidate
-  module _ {here : Level B T} {rs : List (WorkRow B T)} {best : Option T} {setting : List Pair} {v : ℕ} (h : Holds loaded a cs allowance old here rs best setting v) (p : Pair) (inside : here.tried < 8) (more : here.tried < length (row_of cs rs)) (at : get_or (row_of cs rs) here.tried p ≡ p) where
+  module _ {here : Level B T} {rs : List (SearchRow B T W C)} {best : Option T} {setting : List Pair} {v : ℕ} (h : Holds loaded a cs allowance old here rs best setting v) (p : Pair) (inside : here.tried < 8) (more : here.tried < length (row_of cs rs)) (at : get_or (row_of cs rs) here.tried p ≡ p) where
     row_is : drop here.tried (row_of cs rs) ≡ p ∷ drop (here.tried + 1) (row_of cs rs)
     row_is = drop_more (row_of cs rs) here.tried p more ∙ ap (λ x. x ∷ drop (here.tried + 1) (row_of cs rs)) at
 
@@ -321,7 +321,7 @@ module _ {B T : Type 0} (loaded : List Pair → B) (a : Aim T) (cs : List (List 
             drop_found (Some s) n e w m = ap (drop n) e ∙ drop_at s (drop (length s) old) n (w ∙ sym m) ∙ ap (λ k. drop k old) (w ∙ sym m)
 
         -- at another link: the search goes on below it
-        pub deeper : suc (length rs) < length cs → (r : WorkRow B T) → r.level ≡ tried_one here → r.pair ≡ p → (fresh : Level B T) → fresh.load ≡ loaded (base rs ++ p ∷ []) → fresh.total ≡ a.total (base rs ++ p ∷ []) → fresh.tried ≡ 0 → Holds loaded a cs allowance old fresh (r ∷ rs) best setting (v + 1)
+        pub deeper : suc (length rs) < length cs → (r : SearchRow B T W C) → r.level ≡ tried_one here → r.pair ≡ p → (fresh : Level B T) → fresh.load ≡ loaded (base rs ++ p ∷ []) → fresh.total ≡ a.total (base rs ++ p ∷ []) → fresh.tried ≡ 0 → Holds loaded a cs allowance old fresh (r ∷ rs) best setting (v + 1)
         deeper not_last r r_level r_pair fresh load total fresh_tried =
             let b = h.stands.found in
             let q = base rs ++ p ∷ [] in
@@ -349,13 +349,13 @@ module _ {B T : Type 0} (loaded : List Pair → B) (a : Aim T) (cs : List (List 
             }
 
 -- how many turns may be left falls at each turn
-module _ {B T : Type 0} (cs : List (List Pair)) where
+module _ {B T W C : Type 0} (cs : List (List Pair)) where
   -- by leaving a row
-  pub leave_less : (here : Level B T) (r : WorkRow B T) (rs : List (WorkRow B T)) → turns cs r.level rs < turns cs here (r ∷ rs)
+  pub leave_less : (here : Level B T) (r : SearchRow B T W C) (rs : List (SearchRow B T W C)) → turns cs r.level rs < turns cs here (r ∷ rs)
   leave_less here r rs = omega (arith, row_turns_pos (suc (all_turns (below_of cs (r ∷ rs)))) (drop here.tried (row_of cs (r ∷ rs))))
 
   -- closing a level takes none more
-  pub close_no_more : (k : Bool) (level : Level B T) (rs : List (WorkRow B T)) → level.tried ≤ 8 → turns cs (closed k level) rs ≤ turns cs level rs
+  pub close_no_more : (k : Bool) (level : Level B T) (rs : List (SearchRow B T W C)) → level.tried ≤ 8 → turns cs (closed k level) rs ≤ turns cs level rs
   close_no_more false level rs h = omega arith
   close_no_more true level rs h =
       let each = suc (all_turns (below_of cs rs)) in
@@ -364,7 +364,7 @@ module _ {B T : Type 0} (cs : List (List Pair)) where
       let same : row_turns each (drop (level.tried + (8 - level.tried)) row) ≡ row_turns each (drop 8 row) = ap (λ n. row_turns each (drop n row)) all in
       omega (arith, row_turns_drop each level.tried (8 - level.tried) row)
 
-  module _ (here : Level B T) (rs : List (WorkRow B T)) (p : Pair) (more : here.tried < length (row_of cs rs)) where
+  module _ (here : Level B T) (rs : List (SearchRow B T W C)) (p : Pair) (more : here.tried < length (row_of cs rs)) where
     turns_was : turns cs here rs ≡ suc (all_turns (below_of cs rs)) + turns cs (tried_one here) rs
     turns_was =
         let each = suc (all_turns (below_of cs rs)) in
@@ -376,7 +376,7 @@ module _ {B T : Type 0} (cs : List (List Pair)) where
     tried_less = omega (arith, turns_was)
 
     -- by going on to the next link
-    pub deeper_less : suc (length rs) < length cs → (r : WorkRow B T) → r.level ≡ tried_one here → (fresh : Level B T) → fresh.tried ≡ 0 → turns cs fresh (r ∷ rs) < turns cs here rs
+    pub deeper_less : suc (length rs) < length cs → (r : SearchRow B T W C) → r.level ≡ tried_one here → (fresh : Level B T) → fresh.tried ≡ 0 → turns cs fresh (r ∷ rs) < turns cs here rs
     deeper_less not_last r r_level fresh fresh_tried =
         let below : all_turns (below_of cs rs) ≡ all_turns (get_or cs (suc (length rs)) [] ∷ drop (suc (suc (length rs))) cs) = ap all_turns (drop-cons cs (suc (length rs)) [] not_last) in
         let now : level_turns cs fresh (r ∷ rs) ≡ all_turns (get_or cs (suc (length rs)) [] ∷ drop (suc (suc (length rs))) cs) = ap (λ n. row_turns (suc (all_turns (below_of cs (r ∷ rs)))) (drop n (row_of cs (r ∷ rs)))) fresh_tried in

@@ -2,22 +2,23 @@
 use Rattle.std.proofs.Common.{◌≡◌, Bool, ℕ, suc, ◌+◌, ◌-◌, ◌<◌, ◌≤◌, true, false, leb, List, [], ◌∷◌, ◌++◌, map, length, get_or, take, drop, set, slice_get, Some, None, Option, sym, ap, ap₂, ◌∙◌, subst, inl, inr, length-set, arith}
 use Rattle.std.specs.Option.{option_map_or, OnSome}
 use Rattle.std.proofs.lemmas.Bool.{both_ways}
-use Rattle.std.proofs.lemmas.List.{length-map, length-take-le, get_or_default}
+use Rattle.std.proofs.lemmas.List.{length-map, length-take-le, get_or_default, get_or-map, get_or-take}
 use Rattle.std.proofs.lemmas.Option.{none-some, slice_get_cases, slice_get_within, get_or_from_slice_get}
 use Rattle.limits.specs.declared.pair.Pair.{Pair}
 use Rattle.limits.specs.Selection.{Selection}
 use Rattle.limits.specs.Taken.{MayTake, Takes}
 use Rattle.planner.specs.declared.outcome.Outcome.{Outcome}
 use Rattle.planner.specs.declared.outcome.Outcome.TheVariants.{Spent, NoneWithin, Found}
-use Rattle.planner.specs.declared.work_row.Level.{Level}
-use Rattle.planner.specs.declared.work_row.WorkRow.{WorkRow}
+use Rattle.planner.specs.declared.search_row.Figures.{Figures}
+use Rattle.planner.specs.declared.search_row.Level.{Level}
+use Rattle.planner.specs.declared.search_row.SearchRow.{SearchRow}
 use Rattle.planner.specs.Named.{Aim, visits, named}
 use Rattle.planner.specs.Outcome.{outcome, placed}
 use Rattle.planner.specs.Table.{LawfulCandidates}
-use Rattle.planner.specs.Work.{held}
+use Rattle.planner.specs.Work.{held, noted}
 use Rattle.planner.proofs.Fold.{beats}
 use Rattle.planner.proofs.Laws.{Laws}
-use Rattle.planner.proofs.Stack.{stack, stack_length, stack_push, stack_pop, base, base_reverse, held_set, held_at, row_of, turns}
+use Rattle.planner.proofs.Stack.{stack, stack_length, stack_push, stack_pop, base, base_reverse, rows_set, rows_at, row_of, turns}
 use Rattle.planner.proofs.Turns.{tried_one, Reached, Stands, Holds, beaten, beaten_is, closed, close, leave, end_told, end_placed, start, visit_selection, spent, spent_below, passed, kept, deeper, leave_less, close_no_more, tried_less, deeper_less}
 
 -- a place without element is past the end
@@ -25,51 +26,52 @@ past : {X : Type 0} (xs : List X) (i : ℕ) → slice_get xs i ≡ None → leng
 past xs i e = elim (slice_get_cases xs i).1 [ inl h ↦ absurd (none-some h.0 (sym e ∙ h.2)) | inr h ↦ h.0 ]
 
 -- the search before a turn: the link at that depth is tried, and the rows above it hold where it was left
-pub record Walks {B T : Type 0} (loaded : List Pair → B) (a : Aim T) (links : ℕ) (cs : List (List Pair)) (allowance : ℕ) (old : List Pair) (here : Level B T) (depth : ℕ) (work : List (WorkRow B T)) (best : Option T) (setting : List Pair) (v : ℕ) : Type 0 where
+pub record Walks {B T W C : Type 0} (loaded : List Pair → B) (f : Pair → Figures W C) (a : Aim T) (links : ℕ) (cs : List (List Pair)) (allowance : ℕ) (old : List Pair) (here : Level B T) (depth : ℕ) (work : List (SearchRow B T W C)) (best : Option T) (setting : List Pair) (v : ℕ) : Type 0 where
   pub deep : depth < links
   pub long : links ≤ length work
   pub same : held links work ≡ cs
+  pub noted_is : noted links work ≡ map (map f) cs
   pub holds : Holds loaded a cs allowance old here (stack work depth) best setting v
 
 -- how many links there are, and the row of one
-count_links : {B T : Type 0} (links : ℕ) (cs : List (List Pair)) (work : List (WorkRow B T)) → links ≤ length work → held links work ≡ cs → length cs ≡ links
+count_links : {B T W C : Type 0} (links : ℕ) (cs : List (List Pair)) (work : List (SearchRow B T W C)) → links ≤ length work → held links work ≡ cs → length cs ≡ links
 count_links links cs work long same = ap length (sym same) ∙ length-map (take links work) (λ row. row.candidates.items) ∙ length-take-le links work long
 
-row_at : {B T : Type 0} (links : ℕ) (cs : List (List Pair)) (work : List (WorkRow B T)) (depth : ℕ) → links ≤ length work → held links work ≡ cs → depth < links → (row : WorkRow B T) → row_of cs (stack work depth) ≡ (get_or work depth row).candidates.items
+row_at : {B T W C : Type 0} (links : ℕ) (cs : List (List Pair)) (work : List (SearchRow B T W C)) (depth : ℕ) → links ≤ length work → held links work ≡ cs → depth < links → (row : SearchRow B T W C) → row_of cs (stack work depth) ≡ (get_or work depth row).candidates.items
 row_at links cs work depth long same deep row =
     ap (λ n. get_or cs n []) (stack_length work depth (omega arith))
     ∙ ap (λ ds. get_or ds depth []) (sym same)
-    ∙ held_at links work depth row deep (omega arith)
+    ∙ rows_at (λ r. r.candidates.items) [] links work depth row deep (omega arith)
 
 -- the start
-pub begin : {B T : Type 0} {loaded : List Pair → B} {a : Aim T} {cs : List (List Pair)} (laws : Laws a) (lawful : LawfulCandidates cs) (links allowance : ℕ) (old : List Pair) (work : List (WorkRow B T)) → 0 < links → links ≤ length work → held links work ≡ cs → links ≤ length old → (here : Level B T) (load : B) (total : T) → here ≡ record { load = load; total = total; tried = 0 } → load ≡ loaded [] → total ≡ a.total [] → a.within [] ≡ true → Walks loaded a links cs allowance old here 0 work None old 0
-begin {B} {T} {loaded} {a} {cs} laws lawful links allowance old work some long same room here load total here_is load_is total_is within =
+pub begin : {B T W C : Type 0} {loaded : List Pair → B} {f : Pair → Figures W C} {a : Aim T} {cs : List (List Pair)} (laws : Laws a) (lawful : LawfulCandidates cs) (links allowance : ℕ) (old : List Pair) (work : List (SearchRow B T W C)) → 0 < links → links ≤ length work → held links work ≡ cs → noted links work ≡ map (map f) cs → links ≤ length old → (here : Level B T) (load : B) (total : T) → here ≡ record { load = load; total = total; tried = 0 } → load ≡ loaded [] → total ≡ a.total [] → a.within [] ≡ true → Walks loaded f a links cs allowance old here 0 work None old 0
+begin {loaded = loaded} {a = a} {cs = cs} laws lawful links allowance old work some long same noted_is room here load total here_is load_is total_is within =
     let n = count_links links cs work long same in
-    record { deep = some; long = long; same = same; holds = start loaded a cs laws lawful allowance old here (omega arith) (omega arith) (ap (λ l. l.load) here_is ∙ load_is) (ap (λ l. l.total) here_is ∙ total_is) (ap (λ l. l.tried) here_is) within }
+    record { deep = some; long = long; same = same; noted_is = noted_is; holds = start loaded a cs laws lawful allowance old here (omega arith) (omega arith) (ap (λ l. l.load) here_is ∙ load_is) (ap (λ l. l.total) here_is ∙ total_is) (ap (λ l. l.tried) here_is) within }
 
 -- a turn at which the candidates of the link are used up
-pub record UsedUp {B T : Type 0} (loaded : List Pair → B) (a : Aim T) (links : ℕ) (cs : List (List Pair)) (allowance : ℕ) (old : List Pair) (here : Level B T) (depth : ℕ) (work : List (WorkRow B T)) (best : Option T) (setting : List Pair) (v : ℕ) : Type 0 where
+pub record UsedUp {B T W C : Type 0} (loaded : List Pair → B) (f : Pair → Figures W C) (a : Aim T) (links : ℕ) (cs : List (List Pair)) (allowance : ℕ) (old : List Pair) (here : Level B T) (depth : ℕ) (work : List (SearchRow B T W C)) (best : Option T) (setting : List Pair) (v : ℕ) : Type 0 where
   pub laws : Laws a
   pub lawful : LawfulCandidates cs
-  pub walks : Walks loaded a links cs allowance old here depth work best setting v
+  pub walks : Walks loaded f a links cs allowance old here depth work best setting v
   pub used : length (row_of cs (stack work depth)) ≤ here.tried
 
 -- a turn at which p is the next candidate
-pub record HasNext {B T : Type 0} (loaded : List Pair → B) (a : Aim T) (links : ℕ) (cs : List (List Pair)) (allowance : ℕ) (old : List Pair) (here : Level B T) (depth : ℕ) (work : List (WorkRow B T)) (best : Option T) (setting : List Pair) (v : ℕ) (p : Pair) : Type 0 where
+pub record HasNext {B T W C : Type 0} (loaded : List Pair → B) (f : Pair → Figures W C) (a : Aim T) (links : ℕ) (cs : List (List Pair)) (allowance : ℕ) (old : List Pair) (here : Level B T) (depth : ℕ) (work : List (SearchRow B T W C)) (best : Option T) (setting : List Pair) (v : ℕ) (p : Pair) : Type 0 where
   pub laws : Laws a
   pub lawful : LawfulCandidates cs
-  pub walks : Walks loaded a links cs allowance old here depth work best setting v
+  pub walks : Walks loaded f a links cs allowance old here depth work best setting v
   pub inside : here.tried < 8
   pub more : here.tried < length (row_of cs (stack work depth))
   pub at : get_or (row_of cs (stack work depth)) here.tried p ≡ p
 
 -- which of them it is, as the row tells
-module _ {B T : Type 0} {loaded : List Pair → B} {a : Aim T} {links : ℕ} {cs : List (List Pair)} {allowance : ℕ} {old : List Pair} {here : Level B T} {depth : ℕ} {work : List (WorkRow B T)} {best : Option T} {setting : List Pair} {v : ℕ} (laws : Laws a) (lawful : LawfulCandidates cs) (w : Walks loaded a links cs allowance old here depth work best setting v) (row : WorkRow B T) (next : Option Pair) (read : next ≡ slice_get (get_or work depth row).candidates.items here.tried) where
+module _ {B T W C : Type 0} {loaded : List Pair → B} {f : Pair → Figures W C} {a : Aim T} {links : ℕ} {cs : List (List Pair)} {allowance : ℕ} {old : List Pair} {here : Level B T} {depth : ℕ} {work : List (SearchRow B T W C)} {best : Option T} {setting : List Pair} {v : ℕ} (laws : Laws a) (lawful : LawfulCandidates cs) (w : Walks loaded f a links cs allowance old here depth work best setting v) (row : SearchRow B T W C) (next : Option Pair) (read : next ≡ slice_get (get_or work depth row).candidates.items here.tried) where
   row_is : row_of cs (stack work depth) ≡ (get_or work depth row).candidates.items
   row_is = row_at links cs work depth w.long w.same w.deep row
 
   -- the row has no candidate at that place
-  pub used_up_at : next ≡ None → UsedUp loaded a links cs allowance old here depth work best setting v
+  pub used_up_at : next ≡ None → UsedUp loaded f a links cs allowance old here depth work best setting v
   used_up_at none = record {
     laws = laws;
     lawful = lawful;
@@ -78,7 +80,7 @@ module _ {B T : Type 0} {loaded : List Pair → B} {a : Aim T} {links : ℕ} {cs
   }
 
   -- the row has p there
-  pub next_at : OnSome next (here.tried < 8) → (p : Pair) → next ≡ Some p → HasNext loaded a links cs allowance old here depth work best setting v p
+  pub next_at : OnSome next (here.tried < 8) → (p : Pair) → next ≡ Some p → HasNext loaded f a links cs allowance old here depth work best setting v p
   next_at bound p some = record {
     laws = laws;
     lawful = lawful;
@@ -88,13 +90,33 @@ module _ {B T : Type 0} {loaded : List Pair → B} {a : Aim T} {links : ℕ} {cs
     at = ap (λ c. get_or c here.tried p) row_is ∙ get_or_from_slice_get (get_or work depth row).candidates.items here.tried p p (sym read ∙ some);
   }
 
-height : {B T : Type 0} (links depth : ℕ) (work : List (WorkRow B T)) → depth < links → links ≤ length work → length (stack work depth) ≡ depth
+  -- its figures stand in the same place
+  pub figures_at : (p : Pair) → next ≡ Some p → (again : SearchRow B T W C) (x : Figures W C) → get_or (get_or work depth again).figures here.tried x ≡ f p
+  figures_at p some again x =
+      let items = (get_or work depth row).candidates.items in
+      let figures = (get_or work depth row).figures in
+      let deep = w.deep in
+      let long = w.long in
+      let inside = slice_get_within items here.tried p (sym read ∙ some) in
+      let held_here : get_or cs depth [] ≡ items = ap (λ ds. get_or ds depth []) (sym w.same) ∙ rows_at (λ r. r.candidates.items) [] links work depth row deep (omega arith) in
+      let noted_here : take (length items) figures ≡ map f items =
+      sym (rows_at (λ r. take (length r.candidates.items) r.figures) [] links work depth row deep (omega arith))
+      ∙ ap (λ ns. get_or ns depth []) w.noted_is
+      ∙ get_or-map (map f) cs depth [] [] (omega (arith, count_links links cs work w.long w.same))
+      ∙ ap (map f) held_here in
+      ap (λ r. get_or r.figures here.tried x) (get_or_default work depth again row (omega arith))
+      ∙ sym (get_or-take (length items) figures here.tried x inside)
+      ∙ ap (λ ns. get_or ns here.tried x) noted_here
+      ∙ get_or-map f items here.tried p x inside
+      ∙ ap f (get_or_from_slice_get items here.tried p p (sym read ∙ some))
+
+height : {B T W C : Type 0} (links depth : ℕ) (work : List (SearchRow B T W C)) → depth < links → links ≤ length work → length (stack work depth) ≡ depth
 height links depth work deep long = stack_length work depth (omega arith)
 
-module _ {B T : Type 0} {loaded : List Pair → B} {a : Aim T} {links : ℕ} {cs : List (List Pair)} {allowance : ℕ} {old : List Pair} {here : Level B T} {depth : ℕ} {work : List (WorkRow B T)} {best : Option T} {setting : List Pair} {v : ℕ} (t : UsedUp loaded a links cs allowance old here depth work best setting v) where
+module _ {B T W C : Type 0} {loaded : List Pair → B} {f : Pair → Figures W C} {a : Aim T} {links : ℕ} {cs : List (List Pair)} {allowance : ℕ} {old : List Pair} {here : Level B T} {depth : ℕ} {work : List (SearchRow B T W C)} {best : Option T} {setting : List Pair} {v : ℕ} (t : UsedUp loaded f a links cs allowance old here depth work best setting v) where
   -- at the first link: the search is over
   module _ (first : depth ≡ 0) where
-    at_first : Holds loaded a cs allowance old here [] best setting v
+    at_first : Holds {W = W} {C = C} loaded a cs allowance old here [] best setting v
     at_first = subst (λ d. Holds loaded a cs allowance old here (stack work d) best setting v) first t.walks.holds
 
     used_first : length (get_or cs 0 []) ≤ here.tried
@@ -109,7 +131,7 @@ module _ {B T : Type 0} {loaded : List Pair → B} {a : Aim T} {links : ℕ} {cs
     over_placed = end_placed loaded a cs t.laws t.lawful allowance old at_first used_first
 
   -- at another link: the search goes back to the link before
-  module _ (other : depth ≡ 0 → ⊥) (row_back : WorkRow B T) where
+  module _ (other : depth ≡ 0 → ⊥) (row_back : SearchRow B T W C) where
     popped : stack work depth ≡ get_or work (depth - 1) row_back ∷ stack work (depth - 1)
     popped =
         let deep = t.walks.deep in
@@ -127,13 +149,14 @@ module _ {B T : Type 0} {loaded : List Pair → B} {a : Aim T} {links : ℕ} {cs
     at_back = leave loaded a cs t.laws t.lawful allowance old left_here used_here
 
     -- the search stands at the link before
-    pub back_walks : Walks loaded a links cs allowance old (closed (beaten a best (get_or work (depth - 1) row_back).level.total) (get_or work (depth - 1) row_back).level) (depth - 1) work best setting v
+    pub back_walks : Walks loaded f a links cs allowance old (closed (beaten a best (get_or work (depth - 1) row_back).level.total) (get_or work (depth - 1) row_back).level) (depth - 1) work best setting v
     back_walks =
         let deep = t.walks.deep in
         record {
           deep = omega arith;
           long = t.walks.long;
           same = t.walks.same;
+          noted_is = t.walks.noted_is;
           holds = close loaded a cs t.laws t.lawful allowance old at_back;
         }
 
@@ -144,7 +167,7 @@ module _ {B T : Type 0} {loaded : List Pair → B} {a : Aim T} {links : ℕ} {cs
         let same : turns cs here (stack work depth) ≡ turns cs here ((get_or work (depth - 1) row_back) ∷ stack work (depth - 1)) = ap (turns cs here) popped in
         omega (arith, close_no_more cs (beaten a best (get_or work (depth - 1) row_back).level.total) (get_or work (depth - 1) row_back).level (stack work (depth - 1)) at_back.reached.few)
 
-module _ {B T : Type 0} {loaded : List Pair → B} {a : Aim T} {links : ℕ} {cs : List (List Pair)} {allowance : ℕ} {old : List Pair} {here : Level B T} {depth : ℕ} {work : List (WorkRow B T)} {best : Option T} {setting : List Pair} {v : ℕ} {p : Pair} (t : HasNext loaded a links cs allowance old here depth work best setting v p) where
+module _ {B T W C : Type 0} {loaded : List Pair → B} {f : Pair → Figures W C} {a : Aim T} {links : ℕ} {cs : List (List Pair)} {allowance : ℕ} {old : List Pair} {here : Level B T} {depth : ℕ} {work : List (SearchRow B T W C)} {best : Option T} {setting : List Pair} {v : ℕ} {p : Pair} (t : HasNext loaded f a links cs allowance old here depth work best setting v p) where
   -- the selection with p
   pub taken : Selection (base (stack work depth) ++ p ∷ [])
   taken = visit_selection loaded a cs t.laws t.lawful allowance old t.walks.holds p t.inside t.more t.at
@@ -181,11 +204,11 @@ module _ {B T : Type 0} {loaded : List Pair → B} {a : Aim T} {links : ℕ} {cs
   tried_turns = tried_less cs here (stack work depth) p t.more
 
   module _ (unspent : v ≡ allowance → ⊥) where
-    with_tried : Holds loaded a cs allowance old (tried_one here) (stack work depth) best setting (v + 1) → Walks loaded a links cs allowance old (tried_one here) depth work best setting (v + 1)
-    with_tried h = record { deep = t.walks.deep; long = t.walks.long; same = t.walks.same; holds = h }
+    with_tried : Holds loaded a cs allowance old (tried_one here) (stack work depth) best setting (v + 1) → Walks loaded f a links cs allowance old (tried_one here) depth work best setting (v + 1)
+    with_tried h = record { deep = t.walks.deep; long = t.walks.long; same = t.walks.same; noted_is = t.walks.noted_is; holds = h }
 
     -- the selection with it is not within
-    pub outside_walks : a.within (base (stack work depth) ++ p ∷ []) ≡ false → Walks loaded a links cs allowance old (tried_one here) depth work best setting (v + 1)
+    pub outside_walks : a.within (base (stack work depth) ++ p ∷ []) ≡ false → Walks loaded f a links cs allowance old (tried_one here) depth work best setting (v + 1)
     outside_walks e = with_tried (passed loaded a cs t.laws t.lawful allowance old t.walks.holds p t.inside t.more t.at unspent (inl e))
 
     module _ (total : T) (total_is : total ≡ a.total (base (stack work depth) ++ p ∷ [])) (verdict : Bool) (verdict_is : verdict ≡ beaten a best total) where
@@ -193,7 +216,7 @@ module _ {B T : Type 0} {loaded : List Pair → B} {a : Aim T} {links : ℕ} {cs
       beats_is = verdict_is ∙ beaten_is a t.walks.holds.stands.found best total (base (stack work depth) ++ p ∷ []) t.walks.holds.stands.best_is total_is
 
       -- the best so far totals no t.more
-      pub beaten_walks : verdict ≡ true → Walks loaded a links cs allowance old (tried_one here) depth work best setting (v + 1)
+      pub beaten_walks : verdict ≡ true → Walks loaded f a links cs allowance old (tried_one here) depth work best setting (v + 1)
       beaten_walks e = with_tried (passed loaded a cs t.laws t.lawful allowance old t.walks.holds p t.inside t.more t.at unspent (inr (sym beats_is ∙ e)))
 
       module _ (within : a.within (base (stack work depth) ++ p ∷ []) ≡ true) (unbeaten : verdict ≡ false) where
@@ -208,7 +231,7 @@ module _ {B T : Type 0} {loaded : List Pair → B} {a : Aim T} {links : ℕ} {cs
               new_is ∙ ap₂ (λ s n. (s ++ p ∷ []) ++ drop n setting) (sym (base_reverse (take depth work))) up
 
           -- the search stands at the same link
-          pub best_walks : Walks loaded a links cs allowance old (closed (beaten a (Some total) here.total) (tried_one here)) depth work (Some total) new (v + 1)
+          pub best_walks : Walks loaded f a links cs allowance old (closed (beaten a (Some total) here.total) (tried_one here)) depth work (Some total) new (v + 1)
           best_walks =
               let deep = t.walks.deep in
               let end : length cs ≡ suc (length (stack work depth)) = omega (arith, height links depth work t.walks.deep t.walks.long, count_links links cs work t.walks.long t.walks.same) in
@@ -216,6 +239,7 @@ module _ {B T : Type 0} {loaded : List Pair → B} {a : Aim T} {links : ℕ} {cs
                 deep = t.walks.deep;
                 long = t.walks.long;
                 same = t.walks.same;
+                noted_is = t.walks.noted_is;
                 holds = close loaded a cs t.laws t.lawful allowance old (kept loaded a cs t.laws t.lawful allowance old t.walks.holds p t.inside t.more t.at unspent within ahead end total total_is new new_setting);
               }
 
@@ -224,7 +248,7 @@ module _ {B T : Type 0} {loaded : List Pair → B} {a : Aim T} {links : ℕ} {cs
           best_less = let inside = t.inside in omega (arith, tried_turns, close_no_more cs (beaten a (Some total) here.total) (tried_one here) (stack work depth) (omega arith))
 
         -- at another link the search goes on to the next
-        module _ (not_last : depth + 1 < links) (again new : WorkRow B T) (new_is : new ≡ record { candidates = (get_or work depth again).candidates; level = tried_one here; pair = p }) (fresh : Level B T) (load : B) (fresh_is : fresh ≡ record { load = load; total = total; tried = 0 }) (load_is : load ≡ loaded (base (stack work depth) ++ p ∷ [])) where
+        module _ (not_last : depth + 1 < links) (again new : SearchRow B T W C) (new_is : new ≡ record { candidates = (get_or work depth again).candidates; figures = (get_or work depth again).figures; level = tried_one here; pair = p }) (fresh : Level B T) (load : B) (fresh_is : fresh ≡ record { load = load; total = total; tried = 0 }) (load_is : load ≡ loaded (base (stack work depth) ++ p ∷ [])) where
           untried : fresh.tried ≡ 0
           untried = ap (λ l. l.tried) fresh_is
 
@@ -235,19 +259,23 @@ module _ {B T : Type 0} {loaded : List Pair → B} {a : Aim T} {links : ℕ} {cs
           pushed = stack_push work depth new inside
 
           -- the search stands at the next link
-          pub next_walks : Walks loaded a links cs allowance old fresh (depth + 1) (set work depth new) best setting (v + 1)
+          pub next_walks : Walks loaded f a links cs allowance old fresh (depth + 1) (set work depth new) best setting (v + 1)
           next_walks =
               let on : suc (length (stack work depth)) < length cs = omega (arith, height links depth work t.walks.deep t.walks.long, count_links links cs work t.walks.long t.walks.same) in
               record {
                 deep = not_last;
                 long = omega (arith, t.walks.long, length-set work depth new);
-                same = held_set links work depth new inside (ap (λ r. r.candidates.items) new_is ∙ kept_row) ∙ t.walks.same;
+                same = rows_set (λ r. r.candidates.items) [] links work depth new inside (ap (λ r. r.candidates.items) new_is ∙ ap (λ r. r.candidates.items) kept_row) ∙ t.walks.same;
+                noted_is = rows_set notes [] links work depth new inside (ap notes new_is ∙ ap notes kept_row) ∙ t.walks.noted_is;
                 holds = subst (λ rs. Holds loaded a cs allowance old fresh rs best setting (v + 1)) (sym pushed)
                     (deeper loaded a cs t.laws t.lawful allowance old t.walks.holds p t.inside t.more t.at unspent within ahead on new (ap (λ r. r.level) new_is) (ap (λ r. r.pair) new_is) fresh (ap (λ l. l.load) fresh_is ∙ load_is) (ap (λ l. l.total) fresh_is ∙ total_is) untried);
               }
             where
-              kept_row : (get_or work depth again).candidates.items ≡ (get_or work depth new).candidates.items
-              kept_row = ap (λ r. r.candidates.items) (get_or_default work depth again new inside)
+              notes : SearchRow B T W C → List (Figures W C)
+              notes r = take (length r.candidates.items) r.figures
+
+              kept_row : get_or work depth again ≡ get_or work depth new
+              kept_row = get_or_default work depth again new inside
 
           -- with fewer turns left
           pub next_less : turns cs fresh (stack (set work depth new) (depth + 1)) < turns cs here (stack work depth)

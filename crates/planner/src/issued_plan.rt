@@ -19,11 +19,11 @@ ghost use Rattle.planner.specs.SettingFault.{told};
 use crate::check::check_setting;
 use crate::port_check::check_port_setting;
 use crate::row::Row;
+use crate::search_row::WorkRow;
 use crate::setting_fault::SettingFault;
 use crate::solve_fault::SolveFault;
 use crate::solved::Solved;
 use crate::solver::solve;
-use crate::work_row::WorkRow;
 use limits::{GAP_COUNT, Limit, Measure, Pair, Port};
 use plan::{Plan, PlanFault};
 
@@ -75,7 +75,7 @@ impl IssuedPlan {
         measure: &M,
         allowance: u32,
         answer: &mut [Row],
-        work: &mut [WorkRow<L::Load, M::Total>],
+        work: &mut [WorkRow<L, M>],
     ) -> Result<Solved<M::Total>, SolveFault>
         ensures ending { ended result answer.new ≡ ending eight_gaps (aim_of (L.breach limit.now) (M.totalled measure.now) (M.atmost measure.now)) (issued self.now) allowance (length work.old) answer.old }
         ensures plan { Promised eight_gaps (aim_of (L.breach limit.now) (M.totalled measure.now) (M.atmost measure.now)) (issued self.now) allowance (length answer.old) (length work.old) (ended result answer.new) }

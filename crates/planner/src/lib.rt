@@ -11,13 +11,13 @@ mod port_check;
 mod replay;
 pub mod row;
 mod search;
+pub mod search_row;
 #[cfg(test)]
 mod search_tests;
 pub mod setting_fault;
 pub mod solve_fault;
 pub mod solved;
 mod solver;
-pub mod work_row;
 mod work_table;
 
 pub use call::{PlannerCall, SolveCall};
@@ -26,8 +26,8 @@ pub use issued_plan::IssuedPlan;
 pub use port_check::check_port_setting;
 pub use replay::solve_after;
 pub use row::Row;
+pub use search_row::{WorkRow, work_row};
 pub use setting_fault::SettingFault;
 pub use solve_fault::SolveFault;
 pub use solved::Solved;
 pub use solver::solve;
-pub use work_row::WorkRow;

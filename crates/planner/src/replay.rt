@@ -7,10 +7,10 @@ ghost use Rattle.planner.specs.Promise.{Promised};
 
 use crate::call::{PlannerCall, SolveCall};
 use crate::row::Row;
+use crate::search_row::WorkRow;
 use crate::solve_fault::SolveFault;
 use crate::solved::Solved;
 use crate::solver::solve;
-use crate::work_row::WorkRow;
 use limits::{Limit, Measure};
 use plan::Plan;
 
@@ -20,7 +20,7 @@ pub fn solve_after<L: Limit, M: Measure>(
     calls: &[PlannerCall<L, M>],
     last: &SolveCall<L, M>,
     answer: &mut [Row],
-    work: &mut [WorkRow<L::Load, M::Total>],
+    work: &mut [WorkRow<L, M>],
 ) -> Result<Solved<M::Total>, SolveFault>
     ensures ending { ended result answer.new ≡ ending eight_gaps (aim_by L.breach M.totalled M.atmost last.now) (ledger calls.now) last.now.allowance (length work.old)
         (rows_after eight_gaps (aim_by L.breach M.totalled M.atmost) (length work.old) calls.now answer.old) }
@@ -45,7 +45,7 @@ fn perform<L: Limit, M: Measure>(
     plan: &mut Plan,
     call: &PlannerCall<L, M>,
     answer: &mut [Row],
-    work: &mut [WorkRow<L::Load, M::Total>],
+    work: &mut [WorkRow<L, M>],
 )
     ensures { record { standing = standing plan.new; rows = answer.new } ≡ after_call eight_gaps (aim_by L.breach M.totalled M.atmost) (length work.old) (record { standing = standing plan.old; rows = answer.old }) call.now }
 {

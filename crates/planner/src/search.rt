@@ -1,14 +1,14 @@
-ghost use Rattle.std.specs.Prelude.{◌≡◌, ◌<◌, ◌≤◌, true, false, if◌then◌else◌, [], length, nat_le};
+ghost use Rattle.std.specs.Prelude.{◌≡◌, ◌<◌, ◌≤◌, true, false, if◌then◌else◌, [], map, length, nat_le};
 ghost use Rattle.std.specs.Option.{option_map_or};
 ghost use Rattle.planner.specs.Exchange.{LeastOfAll};
 ghost use Rattle.planner.specs.Named.{aim_of, visits, named};
 ghost use Rattle.planner.specs.Outcome.{outcome, placed};
 ghost use Rattle.planner.specs.Table.{candidates_of, LawfulCandidates};
-ghost use Rattle.planner.specs.Work.{held};
+ghost use Rattle.planner.specs.Work.{held, noted, figures_of};
 ghost use Rattle.planner.specs.declared.outcome.Outcome.TheVariants.{NoneWithin, Found};
 
 use crate::outcome::Outcome;
-use crate::work_row::{Level, WorkRow};
+use crate::search_row::{Level, WorkRow};
 use crate::work_table::{lay_out, write_setting};
 use limits::{GAP_COUNT, Limit, Measure, Pair};
 
@@ -20,7 +20,7 @@ pub(crate) fn search<L: Limit, M: Measure>(
     limit: &L,
     measure: &M,
     allowance: u32,
-    work: &mut [WorkRow<L::Load, M::Total>],
+    work: &mut [WorkRow<L, M>],
     setting: &mut [Pair],
 ) -> Outcome<M::Total>
     requires lawful { LawfulCandidates (candidates_of table.now) }
@@ -40,7 +40,7 @@ pub(crate) fn search<L: Limit, M: Measure>(
             visits: 0,
         };
     }
-    lay_out(table, work);
+    lay_out(table, limit, measure, work);
     walk(table.len(), limit, measure, allowance, work, setting)
 }
 
@@ -50,13 +50,14 @@ fn walk<L: Limit, M: Measure>(
     limit: &L,
     measure: &M,
     allowance: u32,
-    work: &mut [WorkRow<L::Load, M::Total>],
+    work: &mut [WorkRow<L, M>],
     setting: &mut [Pair],
 ) -> Outcome<M::Total>
     requires some { 0 < links }
     requires lawful { LawfulCandidates (held links work.now) }
     requires rows { links ≤ length work.now }
     requires places { links ≤ length setting.now }
+    requires figures { noted links work.now ≡ map (map (figures_of (L.weighed limit.now) (M.costed measure.now))) (held links work.now) }
     requires within { L.breach limit.now [] ≡ 0 }
     ensures told { result ≡ outcome (aim_of (L.breach limit.now) (M.totalled measure.now) (M.atmost measure.now)) (held links work.old) allowance }
     ensures setting { nat_le (visits (aim_of (L.breach limit.now) (M.totalled measure.now) (M.atmost measure.now)) (held links work.old)) allowance ≡ true
@@ -79,15 +80,16 @@ fn walk<L: Limit, M: Measure>(
         if visits == allowance {
             return Outcome::Spent;
         }
+        let figures = work[depth].figures_at(here.tried);
         visits += 1;
         here.tried += 1;
-        let load = limit.load_with(here.load, pair);
-        if limit.breach_of(load) != 0 {
+        // no setting that goes on from it totals less than the best; most visits end here, so this is asked before the limit
+        let total = measure.total_with(here.total, pair, figures.cost);
+        if is_beaten(measure, best, total) {
             continue;
         }
-        let total = measure.total_with(here.total, pair);
-        // nothing that goes on from it totals less than the best
-        if is_beaten(measure, best, total) {
+        let load = limit.load_with(here.load, pair, figures.weight);
+        if limit.breach_of(load) != 0 {
             continue;
         }
         if depth + 1 < links {

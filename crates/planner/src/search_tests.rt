@@ -5,8 +5,7 @@ ghost use Rattle.planner.specs.Table.{candidates_of, LawfulCandidates};
 
 use crate::outcome::Outcome;
 use crate::search::search;
-use crate::work_row::{Level, WorkRow};
-use arrayvec::ArrayVec;
+use crate::search_row::{WorkRow, work_row};
 use limits::{Burst, BurstTotal, GAP_COUNT, Limit, Measure, Pair, Port, PortLimit, Reserve};
 use std::array;
 use std::test::Fail;
@@ -14,7 +13,7 @@ use std::test::Fail;
 type Places = [Option<Pair>; GAP_COUNT];
 
 /// A row of the work table under a port's limit.
-type Row<T> = WorkRow<<PortLimit as Limit>::Load, T>;
+type Row<M> = WorkRow<PortLimit, M>;
 
 /// A limit that admits nothing, not even the empty selection.
 #[derive(Clone, Copy)]
@@ -23,7 +22,11 @@ struct Never;
 impl Limit for Never {
     type Load = ();
 
+    type Weight = ();
+
     ghost loaded = { λ l s. tt };
+
+    ghost weighed = { λ l p. tt };
 
     ghost breach = { λ l s. 7 };
 
@@ -33,7 +36,9 @@ impl Limit for Never {
 
     fn empty_load(&self) {}
 
-    fn load_with(&self, _load: (), _pair: Pair) {}
+    fn weight_of(&self, _pair: Pair) {}
+
+    fn load_with(&self, _load: (), _pair: Pair, _weight: ()) {}
 
     fn breach_of(&self, _load: ()) -> u32 {
         7
@@ -47,7 +52,11 @@ struct Free;
 impl Measure for Free {
     type Total = ();
 
+    type Cost = ();
+
     ghost totalled = { λ m s. tt };
+
+    ghost costed = { λ m p. tt };
 
     ghost atmost = { λ m x y. true };
 
@@ -61,7 +70,9 @@ impl Measure for Free {
 
     fn empty_total(&self) {}
 
-    fn total_with(&self, _total: (), _pair: Pair) {}
+    fn cost_of(&self, _pair: Pair) {}
+
+    fn total_with(&self, _total: (), _pair: Pair, _cost: ()) {}
 
     fn no_more(&self, _x: (), _y: ()) -> bool {
         true
@@ -163,16 +174,12 @@ fn equal_totals() -> [Places; 1]
 }
 
 /// A row of the work table with something that no search left there.
-fn blank<B, T>(load: B, total: T) -> WorkRow<B, T> {
-    WorkRow {
-        candidates: ArrayVec::new(),
-        level: Level {
-            load,
-            total,
-            tried: 5,
-        },
-        pair: BEFORE,
-    }
+fn junk<L: Limit, M: Measure>(limit: &L, measure: &M, total: M::Total) -> WorkRow<L, M> {
+    let mut row = work_row(limit, measure);
+    row.level.total = total;
+    row.level.tried = 5;
+    row.pair = BEFORE;
+    row
 }
 
 /// What a search tells, and what it leaves in three places.
@@ -181,7 +188,7 @@ fn searched<L: Limit, M: Measure>(
     limit: &L,
     measure: &M,
     allowance: u32,
-    work: &mut [WorkRow<L::Load, M::Total>],
+    work: &mut [WorkRow<L, M>],
 ) -> (Outcome<M::Total>, [Pair; 3])
     requires lawful { LawfulCandidates (candidates_of table.now) }
     requires few { length table.now ≤ 3 }
@@ -192,14 +199,14 @@ fn searched<L: Limit, M: Measure>(
     (told, setting)
 }
 
-/// A search by reserve at a port: what the second of two with one work table tells and leaves.
+/// A search by reserve at a port: what it tells and leaves, with a work table that a search of other links was spent in.
 fn by_reserve(table: &[Places], port: Port, allowance: u32) -> (Outcome<u32>, [Pair; 3])
     requires lawful { LawfulCandidates (candidates_of table.now) }
     requires few { length table.now ≤ 3 }
 {
     let limit = port.limit();
-    let mut work: [Row<u32>; 4] = array::from_fn(|_| blank(limit.empty_load(), 77));
-    searched(table, &limit, &Reserve, 3, &mut work);
+    let mut work: [Row<Reserve>; 4] = array::from_fn(|_| junk(&limit, &Reserve, 77));
+    searched(&scattered(), &limit, &Reserve, 3, &mut work);
     searched(table, &limit, &Reserve, allowance, &mut work)
 }
 
@@ -210,7 +217,7 @@ fn by_burst(table: &[Places], port: Port, allowance: u32) -> (Outcome<BurstTotal
 {
     let limit = port.limit();
     let total = BurstTotal { bytes: 7, units: 7 };
-    let mut work: [Row<BurstTotal>; 4] = array::from_fn(|_| blank(limit.empty_load(), total));
+    let mut work: [Row<Burst>; 4] = array::from_fn(|_| junk(&limit, &Burst, total));
     searched(table, &limit, &Burst, allowance, &mut work)
 }
 
@@ -342,7 +349,7 @@ fn nothing_is_tried_that_cannot_cost_less(rt: HostRuntime) -> Result<(), Fail> {
         (2, 4, pair(2, 9), pair(2, 13)),
     ] {
         let limit = Port::new(10_000, 10_000, floor)?.limit();
-        let mut work: [Row<()>; 3] = array::from_fn(|_| blank(limit.empty_load(), ()));
+        let mut work: [Row<Free>; 3] = array::from_fn(|_| junk(&limit, &Free, ()));
         assert_eq!(rt;
             searched(&links, &limit, &Free, visits, &mut work),
             (
@@ -377,7 +384,7 @@ fn no_links(rt: HostRuntime) -> Result<(), Fail> {
 #[test]
 fn a_limit_that_does_not_admit_the_empty_selection(rt: HostRuntime) {
     let none = Outcome::NoneWithin { visits: 0 };
-    let mut work: [WorkRow<(), u32>; 3] = array::from_fn(|_| blank((), 77));
+    let mut work: [WorkRow<Never, Reserve>; 3] = array::from_fn(|_| junk(&Never, &Reserve, 77));
     assert_eq!(rt;
         searched(&[], &Never, &Reserve, 0, &mut work),
         (none, [BEFORE; 3])

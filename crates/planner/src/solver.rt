@@ -13,9 +13,9 @@ use crate::answer_table::write_rows;
 use crate::outcome::Outcome;
 use crate::row::Row;
 use crate::search::search;
+use crate::search_row::WorkRow;
 use crate::solve_fault::SolveFault;
 use crate::solved::Solved;
-use crate::work_row::WorkRow;
 use arrayvec::ArrayVec;
 use limits::{GAP_COUNT, Limit, MAX_PAIRS, Measure, Pair};
 use plan::Plan;
@@ -32,7 +32,7 @@ pub fn solve<L: Limit, M: Measure>(
     measure: &M,
     allowance: u32,
     answer: &mut [Row],
-    work: &mut [WorkRow<L::Load, M::Total>],
+    work: &mut [WorkRow<L, M>],
 ) -> Result<Solved<M::Total>, SolveFault>
     ensures ending { ended result answer.new ≡ ending eight_gaps (aim_of (L.breach limit.now) (M.totalled measure.now) (M.atmost measure.now)) (standing plan.now) allowance (length work.old) answer.old }
     ensures plan { Promised eight_gaps (aim_of (L.breach limit.now) (M.totalled measure.now) (M.atmost measure.now)) (standing plan.now) allowance (length answer.old) (length work.old) (ended result answer.new) }
@@ -60,7 +60,7 @@ fn search_port<L: Limit, M: Measure>(
     measure: &M,
     allowance: u32,
     answer: &mut [Row],
-    work: &mut [WorkRow<L::Load, M::Total>],
+    work: &mut [WorkRow<L, M>],
 ) -> Result<Solved<M::Total>, SolveFault>
     requires flows { first_without_flow (standing plan.now) ≡ None }
     requires rows { length (standing plan.now).links ≤ length answer.now }

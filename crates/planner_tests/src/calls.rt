@@ -1,9 +1,9 @@
 //! A list of calls with a last solve.
 use crate::plans::{BEFORE, row};
 use crate::solving::{Work, by_reserve, found};
-use limits::{Burst, BurstTotal, Floor, Limit, Port, PortLimit, Reserve};
+use limits::{Burst, BurstTotal, Floor, Port, PortLimit, Reserve};
 use plan::{Call, Plan};
-use planner::{PlannerCall, Row, SolveCall, SolveFault, Solved, WorkRow, solve_after};
+use planner::{PlannerCall, Row, SolveCall, SolveFault, Solved, WorkRow, solve_after, work_row};
 use std::array;
 use std::test::Fail;
 
@@ -34,7 +34,7 @@ fn performed(
     last: &SolveCall<PortLimit, Reserve>,
 ) -> (Result<Solved<u32>, SolveFault>, [Row; 3]) {
     let mut answer = [BEFORE; 3];
-    let mut work: [Work<u32>; 4] = array::from_fn(|_| WorkRow::new(last.limit.empty_load(), 77));
+    let mut work: [Work<Reserve>; 4] = array::from_fn(|_| work_row(&last.limit, &Reserve));
     let told = solve_after(calls, last, &mut answer, &mut work);
     (told, answer)
 }
@@ -170,7 +170,7 @@ fn a_last_solve_in_tables_that_are_too_short(rt: HostRuntime) -> Result<(), Fail
     let last = asked(10_000, 42)?;
     let alone = row(1, 32, 200);
     let mut answer = [BEFORE; 2];
-    let mut work: [Work<u32>; 3] = array::from_fn(|_| WorkRow::new(last.limit.empty_load(), 77));
+    let mut work: [Work<Reserve>; 3] = array::from_fn(|_| work_row(&last.limit, &Reserve));
     assert_eq!(rt;
         solve_after(&calls, &last, &mut answer[..1], &mut work),
         Err(SolveFault::AnswerTableTooShort)
@@ -220,9 +220,9 @@ fn dwindling_calls() -> [PlannerCall<Floor, Burst>; 6] {
 fn solves_under_limits_of_their_own(rt: HostRuntime) -> Result<(), Fail> {
     let calls = dwindling_calls();
     let burst = |bytes, units| BurstTotal { bytes, units };
-    let mut work: [WorkRow<bool, BurstTotal>; 2] = array::from_fn(|_| WorkRow::new(
-        true,
-        BurstTotal { bytes: 0, units: 0 },
+    let mut work: [WorkRow<Floor, Burst>; 2] = array::from_fn(|_| work_row(
+        &Floor { gap: 1 },
+        &Burst,
     ));
     for (count, gap, told, first) in [
         (3, 2, found(burst(107, 6848), 3), row(1, 2, 40)),

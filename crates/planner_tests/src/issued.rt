@@ -1,8 +1,8 @@
 use crate::plans::{BEFORE, row, two_links};
 use crate::solving::{Work, found};
-use limits::{GAP_COUNT, Limit, Open, Pair, Port, Reserve};
+use limits::{GAP_COUNT, Open, Pair, Port, Reserve};
 use plan::{Plan, PlanFault};
-use planner::{IssuedPlan, Row, SettingFault, SolveFault, Solved, WorkRow};
+use planner::{IssuedPlan, Row, SettingFault, SolveFault, Solved, work_row};
 use std::array;
 use std::test::Fail;
 
@@ -14,7 +14,7 @@ fn by_reserve(
     answer: &mut [Row],
 ) -> Result<Solved<u32>, SolveFault> {
     let limit = port.limit();
-    let mut work: [Work<u32>; 4] = array::from_fn(|_| WorkRow::new(limit.empty_load(), 77));
+    let mut work: [Work<Reserve>; 4] = array::from_fn(|_| work_row(&limit, &Reserve));
     issued.solve(&limit, &Reserve, allowance, answer, &mut work)
 }
 

@@ -5,7 +5,7 @@ use crate::plans::{BEFORE, two_links};
 use crate::solving::found;
 use limits::{Limit, Pair, Reserve};
 use plan::Plan;
-use planner::{SolveFault, WorkRow, solve};
+use planner::{SolveFault, WorkRow, solve, work_row};
 use std::array;
 use std::test::Fail;
 
@@ -18,7 +18,11 @@ struct Always {
 impl Limit for Always {
     type Load = ();
 
+    type Weight = ();
+
     ghost loaded = { λ l s. tt };
+
+    ghost weighed = { λ l p. tt };
 
     ghost breach = { λ l s. l.breach };
 
@@ -28,7 +32,9 @@ impl Limit for Always {
 
     fn empty_load(&self) {}
 
-    fn load_with(&self, _load: (), _pair: Pair) {}
+    fn weight_of(&self, _pair: Pair) {}
+
+    fn load_with(&self, _load: (), _pair: Pair, _weight: ()) {}
 
     fn breach_of(&self, _load: ()) -> u32 {
         self.breach
@@ -38,7 +44,10 @@ impl Limit for Always {
 #[test]
 fn where_not_even_the_empty_selection_is_within(rt: HostRuntime) -> Result<(), Fail> {
     let mut answer = [BEFORE; 2];
-    let mut work: [WorkRow<(), u32>; 3] = array::from_fn(|_| WorkRow::new((), 77));
+    let mut work: [WorkRow<Always, Reserve>; 3] = array::from_fn(|_| work_row(
+        &Always { breach: 1 },
+        &Reserve,
+    ));
     for plan in [Plan::open(), two_links()?] {
         assert_eq!(rt;
             solve(

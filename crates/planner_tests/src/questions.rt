@@ -1,9 +1,9 @@
 //! Each question of a solve at its edge, in the order in which they are asked.
 use crate::plans::{BEFORE, one_byte_each, one_flow, row, two_links};
 use crate::solving::{Work, by_burst, by_reserve, found};
-use limits::{Limit, Port, Reserve};
+use limits::{Port, Reserve};
 use plan::Plan;
-use planner::{SolveFault, WorkRow, solve};
+use planner::{SolveFault, solve, work_row};
 use std::array;
 use std::test::Fail;
 
@@ -55,7 +55,7 @@ fn answer_tables_of_as_many_rows_as_links_or_others(rt: HostRuntime) -> Result<(
 fn work_tables_of_a_row_more_than_links_or_fewer(rt: HostRuntime) -> Result<(), Fail> {
     let limit = Port::new(10_000, 10_000, 1)?.limit();
     let plan = two_links()?;
-    let mut work: [Work<u32>; 3] = array::from_fn(|_| WorkRow::new(limit.empty_load(), 77));
+    let mut work: [Work<Reserve>; 3] = array::from_fn(|_| work_row(&limit, &Reserve));
     for (rows, told) in [
         (0, Err(SolveFault::WorkTableTooShort)),
         (2, Err(SolveFault::WorkTableTooShort)),
@@ -156,7 +156,7 @@ fn an_empty_plan(rt: HostRuntime) -> Result<(), Fail> {
     let limit = Port::new(1, 1, 128)?.limit();
     let plan = Plan::open();
     let mut answer = [BEFORE];
-    let mut work: [Work<u32>; 1] = array::from_fn(|_| WorkRow::new(limit.empty_load(), 77));
+    let mut work: [Work<Reserve>; 1] = array::from_fn(|_| work_row(&limit, &Reserve));
     assert_eq!(rt;
         solve(&plan, &limit, &Reserve, 0, &mut answer, &mut []),
         Err(SolveFault::WorkTableTooShort)
@@ -180,7 +180,7 @@ fn as_many_links_as_there_may_be(rt: HostRuntime) -> Result<(), Fail> {
     let limit = Port::new(100_000, 100_000, 128)?.limit();
     let (plan, setting) = one_byte_each()?;
     let mut answer = [BEFORE; 64];
-    let mut work: [Work<u32>; 65] = array::from_fn(|_| WorkRow::new(limit.empty_load(), 77));
+    let mut work: [Work<Reserve>; 65] = array::from_fn(|_| work_row(&limit, &Reserve));
     assert_eq!(rt;
         solve(&plan, &limit, &Reserve, 512, &mut answer, &mut work[..64]),
         Err(SolveFault::WorkTableTooShort)

@@ -1,8 +1,8 @@
 //! Worked ports: which setting a solve returns, what it totals, and how many visits it takes.
 use crate::plans::{BEFORE, one_flow, one_link, row, three_links, two_links};
 use crate::solving::{by_burst, by_reserve, found};
-use limits::{BurstTotal, Floor, Jitter, Layer, Limit, Open, Port, Reserve, Share};
-use planner::{SettingFault, SolveFault, WorkRow, check_port_setting, solve};
+use limits::{BurstTotal, Floor, Jitter, Layer, Open, Port, Reserve, Share};
+use planner::{SettingFault, SolveFault, WorkRow, check_port_setting, solve, work_row};
 use std::array;
 use std::test::Fail;
 
@@ -205,13 +205,16 @@ fn of_equal_totals_the_first(rt: HostRuntime) -> Result<(), Fail> {
 fn under_other_limits(rt: HostRuntime) -> Result<(), Fail> {
     let plan = two_links()?;
     let mut answer = [BEFORE; 2];
-    let mut open: [WorkRow<_, _>; 3] = array::from_fn(|_| WorkRow::new((), 0));
+    let mut open: [WorkRow<Open, Reserve>; 3] = array::from_fn(|_| work_row(&Open, &Reserve));
     assert_eq!(rt;
         solve(&plan, &Open, &Reserve, 42, &mut answer, &mut open),
         found(2336, 42)
     );
     assert_eq!(rt; answer, [row(1, 32, 200), row(2, 32, 250)]);
-    let mut floor: [WorkRow<_, _>; 3] = array::from_fn(|_| WorkRow::new(true, 0));
+    let mut floor: [WorkRow<Floor, Reserve>; 3] = array::from_fn(|_| work_row(
+        &Floor { gap: 32 },
+        &Reserve,
+    ));
     for (gap, told) in [(32, found(2336, 12)), (33, Err(SolveFault::NothingWithin))] {
         assert_eq!(rt;
             solve(&plan, &Floor { gap }, &Reserve, 12, &mut answer, &mut floor),
@@ -226,7 +229,9 @@ fn under_other_limits(rt: HostRuntime) -> Result<(), Fail> {
             below: Floor { gap: 8 },
         },
     };
-    let mut layers: [WorkRow<_, _>; 3] = array::from_fn(|_| WorkRow::new(limit.empty_load(), 0));
+    let mut layers: [WorkRow<Layer<Jitter, Layer<Share, Floor>>, Reserve>; 3] = array::from_fn(
+        |_| work_row(&limit, &Reserve),
+    );
     assert_eq!(rt;
         solve(&plan, &limit, &Reserve, 24, &mut answer, &mut layers),
         found(2340, 24)

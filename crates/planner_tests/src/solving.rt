@@ -1,10 +1,10 @@
-use limits::{Burst, BurstTotal, Limit, Port, PortLimit, Reserve};
+use limits::{Burst, BurstTotal, Port, PortLimit, Reserve};
 use plan::Plan;
-use planner::{Row, SolveFault, Solved, WorkRow, solve};
+use planner::{Row, SolveFault, Solved, WorkRow, solve, work_row};
 use std::array;
 
 /// A row of the work table of a solve under a port's limit.
-pub(crate) type Work<T> = WorkRow<<PortLimit as Limit>::Load, T>;
+pub(crate) type Work<M> = WorkRow<PortLimit, M>;
 
 /// Solves by reserve, with a work table that is long enough for three links.
 pub(crate) fn by_reserve(
@@ -14,7 +14,7 @@ pub(crate) fn by_reserve(
     answer: &mut [Row],
 ) -> Result<Solved<u32>, SolveFault> {
     let limit = port.limit();
-    let mut work: [Work<u32>; 4] = array::from_fn(|_| WorkRow::new(limit.empty_load(), 77));
+    let mut work: [Work<Reserve>; 4] = array::from_fn(|_| work_row(&limit, &Reserve));
     solve(plan, &limit, &Reserve, allowance, answer, &mut work)
 }
 
@@ -26,11 +26,7 @@ pub(crate) fn by_burst(
     answer: &mut [Row],
 ) -> Result<Solved<BurstTotal>, SolveFault> {
     let limit = port.limit();
-    let total = BurstTotal { bytes: 7, units: 7 };
-    let mut work: [Work<BurstTotal>; 4] = array::from_fn(|_| WorkRow::new(
-        limit.empty_load(),
-        total,
-    ));
+    let mut work: [Work<Burst>; 4] = array::from_fn(|_| work_row(&limit, &Burst));
     solve(plan, &limit, &Burst, allowance, answer, &mut work)
 }
 

@@ -26,3 +26,9 @@ all_up_to (suc n) (p ∷ ps) h = (h.0, all_up_to n ps h.1)
 -- the first pairs of a selection are a selection
 pub selection_up_to : (n : ℕ) (ps : List Pair) → Selection ps → Selection (take n ps)
 selection_up_to n ps sel = record { few = omega (arith, sel.few, length-take n ps); each = all_up_to n ps sel.each }
+
+-- the pair of a row of a selection is lawful
+pub lawful_row : (rows : List Row) (i : ℕ) (d : Row) → i < length rows → AllByRecursion Lawful (pairs rows) → Lawful (slice_index_or rows i d).pair
+lawful_row [] i d lt all = absurd (omega (arith, lt))
+lawful_row (row ∷ rows) zero d lt all = all.0
+lawful_row (row ∷ rows) (suc i) d lt all = lawful_row rows i d (omega (arith, lt)) all.1

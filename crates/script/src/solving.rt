@@ -14,16 +14,16 @@ ghost use Rattle.script.specs.Told.{offer_of, solve_told, reserve_aim, burst_aim
 use crate::offer::Offer;
 use crate::run_fault::Cause;
 use arrayvec::ArrayVec;
-use limits::{Burst, BurstTotal, Limit, MAX_PAIRS, Measure, PortLimit, Reserve};
+use limits::{Burst, BurstTotal, MAX_PAIRS, Measure, PortLimit, Reserve};
 use plan::Plan;
-use planner::{Row, SolveFault, WorkRow, solve};
+use planner::{Row, SolveFault, WorkRow, solve, work_row};
 use std::array;
 
 /// The rows that a work table needs for any plan.
 const WORK_ROWS: usize = MAX_PAIRS + 1;
 
-/// A work table for any plan, under the limit of a port, by a measure with these totals.
-type WorkTable<T> = [WorkRow<<PortLimit as Limit>::Load, T>; WORK_ROWS];
+/// A work table for any plan, under the limit of a port and by the measure.
+type WorkTable<M> = [WorkRow<PortLimit, M>; WORK_ROWS];
 
 /// Solves by the measure of the byte: 1 for the reserve, 2 for the burst.
 pub(crate) fn solve_by_measure(
@@ -46,10 +46,7 @@ pub(crate) fn solve_by_measure(
 fn solve_by_reserve(plan: &Plan, limit: &PortLimit, allowance: u32) -> Result<Offer, SolveFault>
     ensures { outcome solve_number solve_detail result ≡ solve_told (reserve_aim limit.now) (standing plan.now) allowance }
 {
-    let mut work: WorkTable<u32> = array::from_fn(|_| WorkRow::new(
-        limit.empty_load(),
-        Reserve.empty_total(),
-    ));
+    let mut work: WorkTable<Reserve> = array::from_fn(|_| work_row(limit, &Reserve));
     solve_by(plan, limit, &Reserve, allowance, &mut work)
 }
 
@@ -57,10 +54,7 @@ fn solve_by_reserve(plan: &Plan, limit: &PortLimit, allowance: u32) -> Result<Of
 fn solve_by_burst(plan: &Plan, limit: &PortLimit, allowance: u32) -> Result<Offer, SolveFault>
     ensures { outcome solve_number solve_detail result ≡ solve_told (burst_aim limit.now) (standing plan.now) allowance }
 {
-    let mut work: WorkTable<BurstTotal> = array::from_fn(|_| WorkRow::new(
-        limit.empty_load(),
-        Burst.empty_total(),
-    ));
+    let mut work: WorkTable<Burst> = array::from_fn(|_| work_row(limit, &Burst));
     solve_by(plan, limit, &Burst, allowance, &mut work)
 }
 
@@ -70,7 +64,7 @@ fn solve_by<M: Measure>(
     limit: &PortLimit,
     measure: &M,
     allowance: u32,
-    work: &mut WorkTable<M::Total>,
+    work: &mut WorkTable<M>,
 ) -> Result<Offer, SolveFault>
     ensures { outcome solve_number solve_detail result ≡ solve_told (aim_of (layers_breach limit.now) (M.totalled measure.now) (M.atmost measure.now)) (standing plan.now) allowance }
 {
@@ -100,7 +94,7 @@ fn burst_of(setting: &[Row]) -> BurstTotal
 {
     let mut total = Burst.empty_total();
     for row in setting {
-        total = Burst.total_with(total, row.pair);
+        total = Burst.total_with(total, row.pair, Burst.cost_of(row.pair));
     }
     total
 }

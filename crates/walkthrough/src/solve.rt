@@ -2,13 +2,11 @@ use crate::check::print_use;
 use crate::notes::{print_accepted, print_refused, print_rows};
 use limits::{Limit, Measure, Port, PortLimit, Reserve, UNITS_PER_KBIT};
 use plan::{Call, Plan};
-use planner::{
-    IssuedPlan, PlannerCall, Row, SolveCall, SolveFault, Solved, WorkRow, solve, solve_after,
-};
+use planner::{IssuedPlan, PlannerCall, Row, SolveCall, SolveFault, Solved, WorkRow, solve, solve_after, work_row};
 use std::{array, io};
 
 /// A work table for two links and the row more that a solve asks for, by reserve under a port's limit.
-type WorkTable = [WorkRow<<PortLimit as Limit>::Load, u32>; 3];
+type WorkTable = [WorkRow<PortLimit, Reserve>; 3];
 
 /// Solves at the port by reserve, and says what is offered.
 pub(crate) fn print_solve(
@@ -69,7 +67,7 @@ fn print_question(rt: &impl Print, port: Port, allowance: u32) -> io::Result<()>
 
 /// A work table to begin with.
 fn work_table(limit: &PortLimit) -> WorkTable {
-    array::from_fn(|_| WorkRow::new(limit.empty_load(), Reserve.empty_total()))
+    array::from_fn(|_| work_row(limit, &Reserve))
 }
 
 /// Says what a solve offers, or why it offers nothing.

@@ -40,10 +40,10 @@ pub returns-then-is_empty-clause-least : goal.returns-then-is_empty-clause-least
 returns-then-is_empty-clause-least g c = least g c.args.limit.now c.args.measure.now c.args.table.now c.requires.lawful
 
 pub returns-clause-told : goal.returns-clause-told
-returns-clause-told g c = rw (sym c.lay_out.ensures) c.walk.ensures.told
+returns-clause-told g c = rw (sym c.lay_out.ensures.candidates) c.walk.ensures.told
 
 pub returns-clause-setting : goal.returns-clause-setting
-returns-clause-setting g c = rw (sym c.lay_out.ensures) c.walk.ensures.setting
+returns-clause-setting g c = rw (sym c.lay_out.ensures.candidates) c.walk.ensures.setting
 
 pub returns-clause-least : goal.returns-clause-least
 returns-clause-least g c = least g c.args.limit.now c.args.measure.now c.args.table.now c.requires.lawful

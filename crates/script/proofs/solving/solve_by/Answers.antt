@@ -1,5 +1,6 @@
-use Rattle.std.proofs.Common.{◌≡◌, ℕ, true, refl, ap, ◌∙◌, length, take, replicate, arith}
+use Rattle.std.proofs.Common.{◌≡◌, ℕ, true, refl, sym, ap, ◌∙◌, length, take, replicate, arith}
 use Rattle.std.proofs.lemmas.Bool.{le-leb, lt-ltb}
+use Rattle.std.proofs.lemmas.List.{length-take-le}
 use Rattle.std.proofs.lemmas.Result.{err_from_is_err_and}
 use Rattle.limits.specs.Gaps.{eight_gaps}
 use Rattle.limits.specs.Port.{PortLayers, layers_breach}
@@ -18,6 +19,11 @@ use Rattle.script.proofs.Laws.{begins, lowers}
 use Rattle.script.proofs.Offers.{choice_selection, accepted_told, told_by_ending}
 use Rattle.script.proofs.solving.solve_by.Given as given
 use Rattle.script.proofs.solving.solve_by.Goals as goal
+
+pub slice_bounds-offer_of-end : goal.slice_bounds-offer_of-end
+slice_bounds-offer_of-end g c =
+    let few = (facts_from_good (standing c.args.plan.now) c.args.plan.now.sound).few_links in
+    sym (length-take-le (length c.links.result.now) c.solve.new.answer (omega (arith, few, ap length c.links.ensures.shown, c.solve.auto.answer)))
 
 pub offer_of-requires : goal.offer_of-requires
 offer_of-requires g c =
