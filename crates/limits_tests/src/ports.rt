@@ -49,16 +49,30 @@ fn the_first_question_decides(rt: HostRuntime) {
 }
 
 #[test]
-fn numbers_of_the_port_refusals(rt: HostRuntime) {
+fn refusals_of_a_port(rt: HostRuntime) -> Result<(), Fail> {
     let faults = [
-        (PortFault::RateOutOfRange, 1),
-        (PortFault::ShareOutOfRange, 2),
-        (PortFault::FloorNotAGap, 3),
+        (
+            PortFault::RateOutOfRange,
+            1,
+            "the rate is not from 1 to 1000000 kbit/s",
+        ),
+        (
+            PortFault::ShareOutOfRange,
+            2,
+            "the share is not from 1 kbit/s to the rate",
+        ),
+        (
+            PortFault::FloorNotAGap,
+            3,
+            "the floor is not one of the gaps",
+        ),
     ];
-    for (fault, number) in faults {
+    for (fault, number, words) in faults {
         assert_eq!(rt; fault.number(), number);
         assert_eq!(rt; fault.detail(), 0);
+        assert_eq!(rt; fault.to_string(rt.alloc())?.as_str(), words);
     }
+    Ok(())
 }
 
 // The pair reserves 334 kbit/s, and its frame of 167 bytes needs 66,800 / 23 = 2,904.3 kbit/s.
