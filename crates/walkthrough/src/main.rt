@@ -2,19 +2,23 @@
 #![tactic(auto)]
 
 mod check;
+mod few_fast;
 mod frames;
 mod notes;
 mod offer;
 mod order_book;
+mod own;
 mod port;
 mod settings;
 mod solve;
+mod weighted;
 
 use check::print_check;
 use limits::{GAP_COUNT, Port};
 use notes::{print_answer, print_call, print_standing};
 use offer::print_pairs;
 use order_book::ORDER_BOOK;
+use own::print_own_solve;
 use plan::Plan;
 use planner::IssuedPlan;
 use port::make_port;
@@ -47,8 +51,13 @@ fn main(rt: HostRuntime) -> io::Result<()> {
     };
     check_settings(&rt, &replayed, port)?;
     ask_settings(&rt, &replayed, port)?;
+    ask_own(&rt, &replayed)?;
     println!(rt;
-        "12. Issue the plan. An issued plan admits no change, and is solved as a plan is. The same is offered."
+        "12. Do it all in one call: the order book, from an empty plan, and then the solve of step 9. The same is offered."
+    )?;
+    print_solve_after(&rt, ORDER_BOOK, port, 9)?;
+    println!(rt;
+        "13. Issue the plan. An issued plan admits no change, and is solved as a plan is. The same is offered."
     )?;
     let issued = IssuedPlan::issue(replayed);
     print_issued_solve(&rt, &issued, port, 9)
@@ -97,8 +106,19 @@ fn ask_settings(rt: &impl Print, plan: &Plan, port: Port) -> io::Result<()> {
             print_solve(rt, plan, slower, 9)?;
         }
     }
+    Ok(())
+}
+
+/// Asks for settings under a limit and by a measure that this program brings.
+fn ask_own(rt: &impl Print, plan: &Plan) -> io::Result<()> {
     println!(rt;
-        "11. Do it all in one call: the order book, from an empty plan, and then the solve. The same is offered."
+        "11. Solve under a limit and by a measure that the program itself brings. Beside what a port admits, only so many links may have a gap of 1 ms, and each byte of a frame counts as so many units more."
     )?;
-    print_solve_after(rt, ORDER_BOOK, port, 9)
+    let Some(port) = make_port(rt, 3000, 3000, 1)? else {
+        return Ok(());
+    };
+    for (most, byte) in [(2, 1088), (2, 1087), (1, 1088), (1, 271), (0, 271)] {
+        print_own_solve(rt, plan, port, most, byte)?;
+    }
+    Ok(())
 }

@@ -1,8 +1,11 @@
 use crate::check::print_use;
 use crate::notes::{print_accepted, print_refused, print_rows};
-use limits::{Limit, Measure, Port, PortLimit, Reserve, UNITS_PER_KBIT};
+use limits::{Port, PortLimit, Reserve, UNITS_PER_KBIT};
 use plan::{Call, Plan};
-use planner::{IssuedPlan, PlannerCall, Row, SolveCall, SolveFault, Solved, WorkRow, solve, solve_after, work_row};
+use planner::{
+    IssuedPlan, PlannerCall, Row, SolveCall, SolveFault, Solved, WorkRow, solve, solve_after,
+    work_row,
+};
 use std::{array, io};
 
 /// A work table for two links and the row more that a solve asks for, by reserve under a port's limit.
@@ -70,7 +73,7 @@ fn work_table(limit: &PortLimit) -> WorkTable {
     array::from_fn(|_| work_row(limit, &Reserve))
 }
 
-/// Says what a solve offers, or why it offers nothing.
+/// Says what a solve by reserve offers, or why it offers nothing.
 fn print_offer(
     rt: &impl Print,
     port: Port,
@@ -79,16 +82,24 @@ fn print_offer(
 ) -> io::Result<()> {
     match told {
         Ok(solved) => {
-            print_accepted(rt)?;
-            print_rows(rt, answer)?;
-            print_use(rt, port, answer)?;
+            print_setting(rt, port, answer)?;
             print_reserve(rt, solved)
         }
-        Err(fault) => {
-            print_refused(rt, fault.number(), fault.detail(), &fault)?;
-            print_meaning(rt, fault)
-        }
+        Err(fault) => print_no_setting(rt, fault),
     }
+}
+
+/// Says which setting is offered, and what it takes of the port.
+pub(crate) fn print_setting(rt: &impl Print, port: Port, answer: &[Row; 2]) -> io::Result<()> {
+    print_accepted(rt)?;
+    print_rows(rt, answer)?;
+    print_use(rt, port, answer)
+}
+
+/// Says why no setting is offered, and what that means for the port.
+pub(crate) fn print_no_setting(rt: &impl Print, fault: SolveFault) -> io::Result<()> {
+    print_refused(rt, fault.number(), fault.detail(), &fault)?;
+    print_meaning(rt, fault)
 }
 
 /// Says what the setting reserves, in kbit/s with four decimals: enough for sixteenths.
@@ -106,7 +117,7 @@ fn print_reserve(rt: &impl Print, solved: Solved<u32>) -> io::Result<()> {
 fn print_meaning(rt: &impl Print, fault: SolveFault) -> io::Result<()> {
     if fault.is_unmeetable() {
         return println!(rt;
-            "   the port is unmeetable: no gaps and MTUs that serve the links are within its limit"
+            "   the port is unmeetable: no gaps and MTUs that serve the links are within the limit"
         );
     }
     if fault == SolveFault::Spent {

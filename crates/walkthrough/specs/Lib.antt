@@ -1,0 +1,4 @@
+pub mod FewFast
+pub mod Weighted
+pub mod FastLaws
+pub mod WeightedLaws
