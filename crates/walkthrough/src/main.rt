@@ -83,11 +83,19 @@ fn make_ports(rt: &impl Print) -> io::Result<Option<Port>> {
 /// Checks settings that were made elsewhere.
 fn check_settings(rt: &impl Print, plan: &Plan, port: Port) -> io::Result<()> {
     println!(rt;
-        "8. Check a setting that was made elsewhere, as it is and with a slip of one byte."
+        "8. Check a setting that was made elsewhere, as it is and with a slip of one byte, and then at other ports."
     )?;
-    for setting in settings() {
+    let settings = settings();
+    for setting in &settings {
         println!(rt; "   Check {}:", setting.note)?;
         print_check(rt, plan, port, &setting.rows)?;
+    }
+    let [offered, ..] = settings;
+    for (rate, floor) in [(10_000, 8), (5000, 4)] {
+        if let Some(other) = make_port(rt, rate, port.share(), floor)? {
+            println!(rt; "   Check {} there:", offered.note)?;
+            print_check(rt, plan, other, &offered.rows)?;
+        }
     }
     Ok(())
 }

@@ -34,11 +34,6 @@ pub(crate) const ORDER_BOOK: [Call; 14] = [
         payload: 200,
         cycle: 1001,
     },
-    Call::Amend {
-        flow: 4,
-        payload: 200,
-        cycle: 80,
-    },
     Call::AddFlow {
         link: 7,
         flow: 3,
@@ -57,5 +52,10 @@ pub(crate) const ORDER_BOOK: [Call; 14] = [
         flow: 3,
         payload: 0,
         cycle: 160,
+    },
+    Call::Amend {
+        flow: 4,
+        payload: 200,
+        cycle: 80,
     },
 ];
