@@ -1,19 +1,9 @@
-//! Limits, measures and ports at their edges.
+//! Layers on limits of any kind, the comparisons of the measures, and the words of refusals.
 #![tactic(auto)]
 
-#[cfg(test)]
-mod floor;
-#[cfg(test)]
-mod jitter;
-#[cfg(test)]
-mod lawful;
 #[cfg(test)]
 mod layers;
 #[cfg(test)]
 mod measures;
 #[cfg(test)]
-mod ports;
-#[cfg(test)]
-mod selections;
-#[cfg(test)]
-mod share;
+mod refusals;

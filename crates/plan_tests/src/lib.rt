@@ -1,21 +1,7 @@
-//! Worked examples of a plan, and each of its questions at the edge.
+//! Examples of use of a plan, and the words of its refusals.
 #![tactic(auto)]
 
 #[cfg(test)]
-mod amending;
-#[cfg(test)]
-mod candidates;
-#[cfg(test)]
-mod flows;
-#[cfg(test)]
-mod links;
-#[cfg(test)]
-mod mixed_calls;
-#[cfg(test)]
-mod pairs;
-#[cfg(test)]
-mod plans;
+mod examples;
 #[cfg(test)]
 mod refusals;
-#[cfg(test)]
-mod withdrawing;

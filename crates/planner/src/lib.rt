@@ -12,8 +12,6 @@ mod replay;
 pub mod row;
 mod search;
 pub mod search_row;
-#[cfg(test)]
-mod search_tests;
 pub mod setting_fault;
 pub mod solve_fault;
 pub mod solved;

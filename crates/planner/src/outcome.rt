@@ -1,5 +1,5 @@
 /// How a search ends.
-#[derive(Clone, Copy, Debug, PartialEq, Eq)]
+#[derive(Clone, Copy)]
 pub(crate) enum Outcome<T> {
     /// The visits are more than the allowance.
     Spent,

@@ -1,9 +1,10 @@
-//! Solves under a limit that another author wrote.
+//! Solves under a limit and by a measure that another author wrote.
+ghost use Rattle.std.specs.Prelude.{true};
 ghost use Rattle.std.proofs.Common.{rules};
 
-use crate::plans::{BEFORE, two_links};
+use crate::plans::{BEFORE, row, two_links};
 use crate::solving::found;
-use limits::{Limit, Pair, Reserve};
+use limits::{Limit, Measure, Pair, Port, PortLimit, Reserve};
 use plan::Plan;
 use planner::{SolveFault, WorkRow, solve, work_row};
 use std::array;
@@ -41,6 +42,40 @@ impl Limit for Always {
     }
 }
 
+/// A measure by which every selection costs the same, so that the first setting ends the search.
+#[derive(Clone, Copy)]
+struct Free;
+
+impl Measure for Free {
+    type Total = ();
+
+    type Cost = ();
+
+    ghost totalled = { λ m s. tt };
+
+    ghost costed = { λ m p. tt };
+
+    ghost atmost = { λ m x y. true };
+
+    ghost either = { Prim.search rules };
+
+    ghost chained = { Prim.search rules };
+
+    ghost beginning = { Prim.search rules };
+
+    ghost lowered = { Prim.search rules };
+
+    fn empty_total(&self) {}
+
+    fn cost_of(&self, _pair: Pair) {}
+
+    fn total_with(&self, _total: (), _pair: Pair, _cost: ()) {}
+
+    fn no_more(&self, _x: (), _y: ()) -> bool {
+        true
+    }
+}
+
 #[test]
 fn where_not_even_the_empty_selection_is_within(rt: HostRuntime) -> Result<(), Fail> {
     let mut answer = [BEFORE; 2];
@@ -73,5 +108,27 @@ fn where_not_even_the_empty_selection_is_within(rt: HostRuntime) -> Result<(), F
         ),
         found(2336, 42)
     );
+    Ok(())
+}
+
+#[test]
+fn nothing_is_tried_that_cannot_cost_less(rt: HostRuntime) -> Result<(), Fail> {
+    let plan = two_links()?;
+    for (floor, visits, first, second) in [
+        (1, 2, row(1, 1, 5), row(2, 1, 7)),
+        (2, 4, row(1, 2, 9), row(2, 2, 13)),
+    ] {
+        let limit = Port::new(10_000, 10_000, floor)?.limit();
+        let mut answer = [BEFORE; 2];
+        let mut work: [WorkRow<PortLimit, Free>; 3] = array::from_fn(|_| work_row(&limit, &Free));
+        assert_eq!(rt;
+            (
+                solve(&plan, &limit, &Free, visits, &mut answer, &mut work),
+                answer
+            ),
+            (found((), visits), [first, second]),
+            "from {floor}"
+        );
+    }
     Ok(())
 }

@@ -24,44 +24,6 @@ pub(crate) fn two_links() -> Result<Plan, Fail> {
     Ok(plan)
 }
 
-/// Those two, and link 3 with 80 bytes every 10 ms and 100 every 12 ms: (1,17), (2,40), (4,100).
-pub(crate) fn three_links() -> Result<Plan, Fail> {
-    let mut plan = two_links()?;
-    plan.add_link(3)?;
-    plan.add_flow(3, 5, 80, 10)?;
-    plan.add_flow(3, 6, 100, 12)?;
-    Ok(plan)
-}
-
-/// Link 1 with 80 bytes every 10 ms and 100 every 12 ms.
-pub(crate) fn one_link() -> Result<Plan, Fail> {
-    let mut plan = Plan::open();
-    plan.add_link(1)?;
-    plan.add_flow(1, 1, 80, 10)?;
-    plan.add_flow(1, 2, 100, 12)?;
-    Ok(plan)
-}
-
-/// Link 7 with flow 1 alone, of this payload and cycle.
-pub(crate) fn one_flow(payload: u16, cycle: u16) -> Result<Plan, Fail> {
-    let mut plan = Plan::open();
-    plan.add_link(7)?;
-    plan.add_flow(7, 1, payload, cycle)?;
-    Ok(plan)
-}
-
-/// As many links as there may be, each with one byte every 128 ms, and a setting that serves them.
-pub(crate) fn one_byte_each() -> Result<(Plan, [Row; 64]), Fail> {
-    let mut plan = Plan::open();
-    let mut rows = [row(0, 128, 1); 64];
-    for (name, row) in (0..64).zip(&mut rows) {
-        plan.add_link(name)?;
-        plan.add_flow(name, name, 1, 128)?;
-        row.link = name;
-    }
-    Ok((plan, rows))
-}
-
 /// A row of a setting.
 pub(crate) fn row(link: u16, gap: u16, mtu: u16) -> Row {
     Row {

@@ -1,8 +1,6 @@
-//! Scripts: what a reader reads of them, the lines of whole ones, and each question at its edge.
+//! Scripts: what a reader reads of them, what a run tells command by command, and the longest ones.
 #![tactic(auto)]
 
-#[cfg(test)]
-mod endings;
 #[cfg(test)]
 mod lines;
 #[cfg(test)]
@@ -13,7 +11,5 @@ mod offers;
 mod reading;
 #[cfg(test)]
 mod refusals;
-#[cfg(test)]
-mod runs;
 #[cfg(test)]
 mod scripts;

@@ -1,0 +1,70 @@
+//! Performs the calls of text files, and holds what each tells against what its line says that it must tell.
+#![tactic(auto)]
+
+mod desk;
+mod edits;
+mod fault;
+mod limit_calls;
+mod line;
+mod perform;
+mod queries;
+mod scripts;
+mod settings;
+mod solves;
+mod tables;
+mod tally;
+mod text;
+mod words;
+
+use desk::Desk;
+use line::Line;
+use perform::perform;
+use std::alloc::Global;
+use std::{env, fs, io};
+use tables::Tables;
+use tally::Tally;
+
+fn main(rt: HostRuntime) -> io::Result<()> {
+    let mut tables = Tables::new();
+    let mut names = env::args(&rt)?;
+    // the first is the program's own
+    let _ = names.next();
+    for name in names {
+        let text = fs::read_to_string(&rt, name.as_str())?;
+        hold_file(&rt, rt.alloc(), &mut tables, name.as_str(), text.as_str())?;
+    }
+    Ok(())
+}
+
+/// Performs the calls of a file, prints each that tells something else than it must, and then how many there were.
+fn hold_file(
+    rt: &impl Print,
+    alloc: Global,
+    tables: &mut Tables,
+    name: &str,
+    text: &str,
+) -> io::Result<()> {
+    let mut desk = Desk::new(alloc)?;
+    let mut tally = Tally::default();
+    for (number, line) in (1_u32..).zip(text.lines()) {
+        match Line::of(line) {
+            Line::Note => {}
+            Line::Case => {
+                desk = Desk::new(alloc)?;
+                tally.note_case();
+            }
+            Line::Call { call, must } => {
+                let told = perform(alloc, &mut desk, tables, call)?;
+                let is_as_it_must = told.as_str().trim() == must;
+                tally.note_call(is_as_it_must);
+                if !is_as_it_must {
+                    println!(rt;
+                        "{name}, line {number}: told `{told}`, where it must be `{must}`"
+                    )?;
+                }
+            }
+            Line::Unreadable => println!(rt; "{name}, line {number}: no call, case or comment")?,
+        }
+    }
+    println!(rt; "{name}: {tally}")
+}

@@ -1,0 +1,124 @@
+use crate::desk::{Desk, answer_table};
+use crate::fault::Fault;
+use crate::text::{write_refusal, write_rows};
+use crate::words::Words;
+use limits::{Burst, Port, PortLimit, Reserve};
+use planner::{PlannerCall, SolveCall, WorkRow, solve, solve_after};
+use std::alloc::Global;
+
+/// `port RATE SHARE FLOOR`
+pub(crate) fn make_port(
+    desk: &mut Desk,
+    words: &mut Words<'_>,
+    told: &mut String,
+) -> Result<(), Fault> {
+    match Port::new(words.long()?, words.long()?, words.long()?) {
+        Ok(port) => {
+            desk.port = Some(port);
+            write!(told, "0 {} {} {}", port.rate(), port.share(), port.floor())?;
+        }
+        Err(fault) => write_refusal(told, fault.number(), fault.detail())?,
+    }
+    Ok(())
+}
+
+/// `tables ANSWER_ROWS WORK_ROWS`: the tables of the solves that come, made anew.
+pub(crate) fn make_tables(
+    alloc: Global,
+    desk: &mut Desk,
+    words: &mut Words<'_>,
+    told: &mut String,
+) -> Result<(), Fault> {
+    let answer_rows = usize::from(words.short()?);
+    let work_rows = usize::from(words.short()?);
+    desk.set_tables(alloc, answer_rows, work_rows)?;
+    write_rows(told, &desk.by_reserve)?;
+    Ok(())
+}
+
+/// `reserve ALLOWANCE`: the number and the detail, or the units and the visits, and then the rows of the answer table. The
+/// issued plan has to tell the same, and so has a list of all calls of the case with this solve as its last.
+pub(crate) fn solve_by_reserve(
+    alloc: Global,
+    desk: &mut Desk,
+    work: &mut [WorkRow<PortLimit, Reserve>],
+    words: &mut Words<'_>,
+    told: &mut String,
+) -> Result<(), Fault> {
+    let last = SolveCall {
+        limit: desk.port()?.limit(),
+        measure: Reserve,
+        allowance: words.long()?,
+    };
+    let work = work.get_mut(..desk.work_rows).ok_or(Fault::Unreadable)?;
+    let mut issued_rows = desk.by_reserve.clone()?;
+    let by_issued = desk.issued().solve(
+        &last.limit,
+        &Reserve,
+        last.allowance,
+        &mut issued_rows,
+        work,
+    );
+    let mut list_rows = answer_table(alloc, desk.by_reserve.len())?;
+    let by_list = solve_after(&desk.calls, &last, &mut list_rows, work);
+    let outcome = solve(
+        &desk.plan,
+        &last.limit,
+        &Reserve,
+        last.allowance,
+        &mut desk.by_reserve,
+        work,
+    );
+    match outcome {
+        Ok(solved) => write!(told, "0 {} {}", solved.total, solved.visits)?,
+        Err(fault) => write_refusal(told, fault.number(), fault.detail())?,
+    }
+    write_rows(told, &desk.by_reserve)?;
+    if by_issued != outcome || issued_rows.as_slice() != desk.by_reserve.as_slice() {
+        told.push_str(" and something else where the plan is issued")?;
+    }
+    if by_list != outcome || list_rows.as_slice() != desk.by_reserve.as_slice() {
+        told.push_str(" and something else where all calls are one list")?;
+    }
+    desk.calls.push(PlannerCall::Solve(last))?;
+    Ok(())
+}
+
+/// `burst ALLOWANCE`: the number and the detail, or the bytes, the units and the visits, and then the rows of the answer table.
+/// The issued plan has to tell the same.
+pub(crate) fn solve_by_burst(
+    alloc: Global,
+    desk: &mut Desk,
+    work: &mut [WorkRow<PortLimit, Burst>],
+    words: &mut Words<'_>,
+    told: &mut String,
+) -> Result<(), Fault> {
+    let limit = desk.port()?.limit();
+    let allowance = words.long()?;
+    let work = work.get_mut(..desk.work_rows).ok_or(Fault::Unreadable)?;
+    let mut issued_rows = desk.by_burst.clone()?;
+    let by_issued = desk
+        .issued()
+        .solve(&limit, &Burst, allowance, &mut issued_rows, work);
+    let outcome = solve(
+        &desk.plan,
+        &limit,
+        &Burst,
+        allowance,
+        &mut desk.by_burst,
+        work,
+    );
+    match outcome {
+        Ok(solved) => write!(
+            told,
+            "0 {} {} {}",
+            solved.total.bytes, solved.total.units, solved.visits
+        )?,
+        Err(fault) => write_refusal(told, fault.number(), fault.detail())?,
+    }
+    write_rows(told, &desk.by_burst)?;
+    if by_issued != outcome || issued_rows.as_slice() != desk.by_burst.as_slice() {
+        told.push_str(" and something else where the plan is issued")?;
+    }
+    Ok(())
+}
