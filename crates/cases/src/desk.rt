@@ -28,6 +28,8 @@ pub(crate) struct Desk {
     pub(crate) work_rows: usize,
     /// The bytes of a script so far.
     pub(crate) script: Vec<u8>,
+    /// The words of the last refusal.
+    pub(crate) refusal: String,
 }
 
 impl Desk {
@@ -42,6 +44,7 @@ impl Desk {
             by_burst: answer_table(alloc, ANSWER_ROWS)?,
             work_rows: ANSWER_ROWS + 1,
             script: Vec::new(alloc),
+            refusal: String::new(alloc),
         })
     }
 

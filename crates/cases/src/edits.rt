@@ -1,6 +1,6 @@
 use crate::desk::Desk;
 use crate::fault::Fault;
-use crate::text::write_plan_answer;
+use crate::told::{Told, write_plan_answer};
 use crate::words::Words;
 use plan::Call;
 
@@ -8,7 +8,7 @@ use plan::Call;
 pub(crate) fn add_link(
     desk: &mut Desk,
     words: &mut Words<'_>,
-    told: &mut String,
+    told: &mut Told,
 ) -> Result<(), Fault> {
     let (first, last) = words.names()?;
     let mut answer = Ok(());
@@ -23,7 +23,7 @@ pub(crate) fn add_link(
 pub(crate) fn add_flow(
     desk: &mut Desk,
     words: &mut Words<'_>,
-    told: &mut String,
+    told: &mut Told,
 ) -> Result<(), Fault> {
     let link = words.short()?;
     let (first, last) = words.names()?;
@@ -42,12 +42,30 @@ pub(crate) fn add_flow(
     tell_replayed(desk, told)
 }
 
-/// `amend NAME PAYLOAD CYCLE`
-pub(crate) fn amend(
+/// `own_flow FIRST-LAST PAYLOAD CYCLE`: adds to each link between a flow of the same name.
+pub(crate) fn add_own_flow(
     desk: &mut Desk,
     words: &mut Words<'_>,
-    told: &mut String,
+    told: &mut Told,
 ) -> Result<(), Fault> {
+    let (first, last) = words.names()?;
+    let payload = words.short()?;
+    let cycle = words.short()?;
+    let mut answer = Ok(());
+    for name in first..=last {
+        answer = answer.and(desk.edit(Call::AddFlow {
+            link: name,
+            flow: name,
+            payload,
+            cycle,
+        })?);
+    }
+    write_plan_answer(told, answer)?;
+    tell_replayed(desk, told)
+}
+
+/// `amend NAME PAYLOAD CYCLE`
+pub(crate) fn amend(desk: &mut Desk, words: &mut Words<'_>, told: &mut Told) -> Result<(), Fault> {
     let answer = desk.edit(Call::Amend {
         flow: words.short()?,
         payload: words.short()?,
@@ -61,7 +79,7 @@ pub(crate) fn amend(
 pub(crate) fn withdraw(
     desk: &mut Desk,
     words: &mut Words<'_>,
-    told: &mut String,
+    told: &mut Told,
 ) -> Result<(), Fault> {
     let answer = desk.edit(Call::Withdraw {
         flow: words.short()?,
@@ -71,9 +89,10 @@ pub(crate) fn withdraw(
 }
 
 /// Tells where something else stands after a replay of all edits.
-fn tell_replayed(desk: &Desk, told: &mut String) -> Result<(), Fault> {
+fn tell_replayed(desk: &Desk, told: &mut Told) -> Result<(), Fault> {
     if !desk.is_replayed() {
-        told.push_str(" and something else where all edits are replayed")?;
+        told.text
+            .push_str(" and something else where all edits are replayed")?;
     }
     Ok(())
 }

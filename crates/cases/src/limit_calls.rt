@@ -1,19 +1,19 @@
 use crate::desk::Desk;
 use crate::fault::Fault;
-use crate::text::write_test;
+use crate::told::{Told, write_test};
 use crate::words::{Words, pair_of};
 use limits::{Burst, Floor, Jitter, Open, Pair, Reserve, Share, breach_of_pairs, total_of_pairs};
 use std::alloc::Global;
 
 /// `pair PAIR`: is its gap lawful, its MTU, and both, and how many bytes has a frame?
-pub(crate) fn tell_pair(words: &mut Words<'_>, told: &mut String) -> Result<(), Fault> {
+pub(crate) fn tell_pair(words: &mut Words<'_>, told: &mut Told) -> Result<(), Fault> {
     let pair = pair_of(words.next().unwrap_or(""))?;
     write_test(told, pair.has_lawful_gap())?;
-    told.push_str(" ")?;
+    told.text.push_str(" ")?;
     write_test(told, pair.has_lawful_mtu())?;
-    told.push_str(" ")?;
+    told.text.push_str(" ")?;
     write_test(told, pair.is_lawful())?;
-    write!(told, " {}", pair.frame_bytes())?;
+    write!(told.text, " {}", pair.frame_bytes())?;
     Ok(())
 }
 
@@ -23,7 +23,7 @@ pub(crate) fn tell_breach(
     alloc: Global,
     desk: &Desk,
     words: &mut Words<'_>,
-    told: &mut String,
+    told: &mut Told,
 ) -> Result<(), Fault> {
     let breach = match words.next().unwrap_or("") {
         "open" => breach_of_pairs(&Open, &pairs_of(alloc, words)?),
@@ -44,8 +44,8 @@ pub(crate) fn tell_breach(
         _ => return Err(Fault::Unreadable),
     };
     match breach {
-        Some(breach) => write!(told, "{breach}")?,
-        None => told.push_str("none")?,
+        Some(breach) => write!(told.text, "{breach}")?,
+        None => told.text.push_str("none")?,
     }
     Ok(())
 }
@@ -54,7 +54,7 @@ pub(crate) fn tell_breach(
 pub(crate) fn tell_total(
     alloc: Global,
     words: &mut Words<'_>,
-    told: &mut String,
+    told: &mut Told,
 ) -> Result<(), Fault> {
     let pairs = pairs_of(alloc, words)?;
     match (
@@ -62,10 +62,10 @@ pub(crate) fn tell_total(
         total_of_pairs(&Burst, &pairs),
     ) {
         (Some(reserve), Some(burst)) => {
-            write!(told, "{reserve} {} {}", burst.bytes, burst.units)?;
+            write!(told.text, "{reserve} {} {}", burst.bytes, burst.units)?;
         }
-        (None, None) => told.push_str("none")?,
-        _ => told.push_str("none by one measure alone")?,
+        (None, None) => told.text.push_str("none")?,
+        _ => told.text.push_str("none by one measure alone")?,
     }
     Ok(())
 }

@@ -13,7 +13,7 @@ mod settings;
 mod solves;
 mod tables;
 mod tally;
-mod text;
+mod told;
 mod words;
 
 use desk::Desk;

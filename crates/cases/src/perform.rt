@@ -1,5 +1,5 @@
 use crate::desk::Desk;
-use crate::edits::{add_flow, add_link, amend, withdraw};
+use crate::edits::{add_flow, add_link, add_own_flow, amend, withdraw};
 use crate::fault::Fault;
 use crate::limit_calls::{tell_breach, tell_pair, tell_total};
 use crate::queries::{
@@ -10,6 +10,7 @@ use crate::scripts::{add_bytes, tell_lines};
 use crate::settings::{check_at_port, check_open};
 use crate::solves::{make_port, make_tables, solve_by_burst, solve_by_reserve};
 use crate::tables::Tables;
+use crate::told::Told;
 use crate::words::Words;
 use std::alloc::{AllocError, Global};
 
@@ -20,11 +21,19 @@ pub(crate) fn perform(
     tables: &mut Tables,
     call: &str,
 ) -> Result<String, AllocError> {
-    let mut told = String::new(alloc);
+    let mut told = Told::new(alloc);
     let mut words = Words::of(call);
     let name = words.next().unwrap_or("");
-    match perform_words(alloc, desk, tables, name, &mut words, &mut told) {
-        Ok(()) if words.next().is_none() => Ok(told),
+    let performed = perform_words(alloc, desk, tables, name, &mut words, &mut told);
+    let Told {
+        text,
+        words: refusal,
+    } = told;
+    if !refusal.is_empty() {
+        desk.refusal = refusal;
+    }
+    match performed {
+        Ok(()) if words.next().is_none() => Ok(text),
         Ok(()) => "a call with too many words".to_string(alloc),
         Err(Fault::Memory) => Err(AllocError),
         Err(Fault::Unreadable) => "a call that cannot be read".to_string(alloc),
@@ -38,9 +47,10 @@ fn perform_words(
     tables: &mut Tables,
     name: &str,
     words: &mut Words<'_>,
-    told: &mut String,
+    told: &mut Told,
 ) -> Result<(), Fault> {
     match name {
+        "words" => Ok(told.text.push_str(desk.refusal.as_str())?),
         "port" => make_port(desk, words, told),
         "tables" => make_tables(alloc, desk, words, told),
         "reserve" => solve_by_reserve(alloc, desk, &mut tables.by_reserve, words, told),
@@ -61,11 +71,12 @@ fn perform_on_plan(
     desk: &mut Desk,
     name: &str,
     words: &mut Words<'_>,
-    told: &mut String,
+    told: &mut Told,
 ) -> Result<(), Fault> {
     match name {
         "link" => add_link(desk, words, told),
         "flow" => add_flow(desk, words, told),
+        "own_flow" => add_own_flow(desk, words, told),
         "amend" => amend(desk, words, told),
         "withdraw" => withdraw(desk, words, told),
         "stands" => tell_standing(desk, told),

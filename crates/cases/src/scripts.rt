@@ -1,42 +1,64 @@
 use crate::desk::Desk;
 use crate::fault::Fault;
+use crate::told::Told;
 use crate::words::Words;
 use script::{LINES_SIZE, Run, SCRIPT_MAX, write_lines};
 use std::alloc::{AllocError, Global};
 
-/// `bytes HEX ..`: more bytes of the script, of which it tells how many there are now.
+/// `bytes HEX ..`: more bytes of the script, each so many times as in `3*4C0007`. It tells how many there are now.
 pub(crate) fn add_bytes(
     alloc: Global,
     desk: &mut Desk,
     words: &mut Words<'_>,
-    told: &mut String,
+    told: &mut Told,
 ) -> Result<(), Fault> {
     for _ in 0..SCRIPT_MAX {
         let Some(word) = words.next() else {
             break;
         };
-        let bytes = hex::decode(alloc, word)?;
-        desk.script.extend_from_slice(&bytes)?;
+        let (times, digits) = word.split_once("*").unwrap_or(("1", word));
+        let bytes = hex::decode(alloc, digits)?;
+        for _ in 0..times.parse::<u16>()? {
+            desk.script.extend_from_slice(&bytes)?;
+        }
     }
-    write!(told, "{}", desk.script.len())?;
+    write!(told.text, "{}", desk.script.len())?;
     Ok(())
 }
 
 /// `lines`: the lines of the script, parted by a slash. The run as a whole and command by command have to write the same.
-pub(crate) fn tell_lines(alloc: Global, desk: &mut Desk, told: &mut String) -> Result<(), Fault> {
+pub(crate) fn tell_lines(alloc: Global, desk: &mut Desk, told: &mut Told) -> Result<(), Fault> {
     let mut written = Vec::new(alloc);
     write_lines(&desk.script, &mut written)?;
     let text = String::from_utf8_lossy(alloc, &written)?;
     for (place, line) in text.as_str().lines().enumerate() {
         if place > 0 {
-            told.push_str(" / ")?;
+            told.text.push_str(" / ")?;
         }
-        told.push_str(line)?;
+        told.text.push_str(line)?;
     }
     if written.as_slice() != text_by_steps(alloc, &desk.script)?.as_slice() {
-        told.push_str(" and something else command by command")?;
+        told.text
+            .push_str(" and something else command by command")?;
     }
+    write_last_refusal(&desk.script, told)?;
     desk.script.clear();
+    Ok(())
+}
+
+/// The words of the last refusal of a run.
+fn write_last_refusal(script: &[u8], told: &mut Told) -> Result<(), AllocError> {
+    let mut run = Run::new(script);
+    for _ in 0..SCRIPT_MAX {
+        match run.step() {
+            None => break,
+            Some(Ok(_)) => {}
+            Some(Err(fault)) => {
+                told.words.clear();
+                write!(told.words, "{}", fault.cause)?;
+            }
+        }
+    }
     Ok(())
 }
 

@@ -1,7 +1,7 @@
 use crate::desk::Desk;
 use crate::fault::Fault;
-use crate::text::write_refusal;
-use crate::words::{Words, row_of};
+use crate::told::Told;
+use crate::words::{Words, push_rows};
 use limits::Open;
 use planner::{Row, SettingFault, check_port_setting, check_setting};
 use std::alloc::Global;
@@ -11,17 +11,19 @@ pub(crate) fn check_at_port(
     alloc: Global,
     desk: &Desk,
     words: &mut Words<'_>,
-    told: &mut String,
+    told: &mut Told,
 ) -> Result<(), Fault> {
     let port = desk.port()?;
     let rows = rows_of(alloc, words)?;
     let answer = check_port_setting(&desk.plan, port, &rows);
     write_answer(told, answer)?;
     if desk.issued().check_port_setting(port, &rows) != answer {
-        told.push_str(" and something else where the plan is issued")?;
+        told.text
+            .push_str(" and something else where the plan is issued")?;
     }
     if check_setting(&desk.plan, &port.limit(), &rows) != answer {
-        told.push_str(" and something else under the limit of the port")?;
+        told.text
+            .push_str(" and something else under the limit of the port")?;
     }
     Ok(())
 }
@@ -31,22 +33,23 @@ pub(crate) fn check_open(
     alloc: Global,
     desk: &Desk,
     words: &mut Words<'_>,
-    told: &mut String,
+    told: &mut Told,
 ) -> Result<(), Fault> {
     let rows = rows_of(alloc, words)?;
     let answer = check_setting(&desk.plan, &Open, &rows);
     write_answer(told, answer)?;
     if desk.issued().check_setting(&Open, &rows) != answer {
-        told.push_str(" and something else where the plan is issued")?;
+        told.text
+            .push_str(" and something else where the plan is issued")?;
     }
     Ok(())
 }
 
 /// What a check tells.
-fn write_answer(told: &mut String, answer: Result<(), SettingFault>) -> Result<(), Fault> {
+fn write_answer(told: &mut Told, answer: Result<(), SettingFault>) -> Result<(), Fault> {
     match answer {
-        Ok(()) => told.push_str("0")?,
-        Err(fault) => write_refusal(told, fault.number(), fault.detail())?,
+        Ok(()) => told.text.push_str("0")?,
+        Err(fault) => told.write_refusal(fault.number(), fault.detail(), &fault)?,
     }
     Ok(())
 }
@@ -58,7 +61,7 @@ fn rows_of(alloc: Global, words: &mut Words<'_>) -> Result<Vec<Row>, Fault> {
         let Some(word) = words.next() else {
             break;
         };
-        rows.push(row_of(word)?)?;
+        push_rows(&mut rows, word)?;
     }
     Ok(rows)
 }

@@ -1,6 +1,6 @@
 use crate::desk::{Desk, answer_table};
 use crate::fault::Fault;
-use crate::text::{write_refusal, write_rows};
+use crate::told::{Told, write_rows};
 use crate::words::Words;
 use limits::{Burst, Port, PortLimit, Reserve};
 use planner::{PlannerCall, SolveCall, WorkRow, solve, solve_after};
@@ -10,14 +10,20 @@ use std::alloc::Global;
 pub(crate) fn make_port(
     desk: &mut Desk,
     words: &mut Words<'_>,
-    told: &mut String,
+    told: &mut Told,
 ) -> Result<(), Fault> {
     match Port::new(words.long()?, words.long()?, words.long()?) {
         Ok(port) => {
             desk.port = Some(port);
-            write!(told, "0 {} {} {}", port.rate(), port.share(), port.floor())?;
+            write!(
+                told.text,
+                "0 {} {} {}",
+                port.rate(),
+                port.share(),
+                port.floor()
+            )?;
         }
-        Err(fault) => write_refusal(told, fault.number(), fault.detail())?,
+        Err(fault) => told.write_refusal(fault.number(), fault.detail(), &fault)?,
     }
     Ok(())
 }
@@ -27,7 +33,7 @@ pub(crate) fn make_tables(
     alloc: Global,
     desk: &mut Desk,
     words: &mut Words<'_>,
-    told: &mut String,
+    told: &mut Told,
 ) -> Result<(), Fault> {
     let answer_rows = usize::from(words.short()?);
     let work_rows = usize::from(words.short()?);
@@ -43,7 +49,7 @@ pub(crate) fn solve_by_reserve(
     desk: &mut Desk,
     work: &mut [WorkRow<PortLimit, Reserve>],
     words: &mut Words<'_>,
-    told: &mut String,
+    told: &mut Told,
 ) -> Result<(), Fault> {
     let last = SolveCall {
         limit: desk.port()?.limit(),
@@ -70,15 +76,17 @@ pub(crate) fn solve_by_reserve(
         work,
     );
     match outcome {
-        Ok(solved) => write!(told, "0 {} {}", solved.total, solved.visits)?,
-        Err(fault) => write_refusal(told, fault.number(), fault.detail())?,
+        Ok(solved) => write!(told.text, "0 {} {}", solved.total, solved.visits)?,
+        Err(fault) => told.write_refusal(fault.number(), fault.detail(), &fault)?,
     }
     write_rows(told, &desk.by_reserve)?;
     if by_issued != outcome || issued_rows.as_slice() != desk.by_reserve.as_slice() {
-        told.push_str(" and something else where the plan is issued")?;
+        told.text
+            .push_str(" and something else where the plan is issued")?;
     }
     if by_list != outcome || list_rows.as_slice() != desk.by_reserve.as_slice() {
-        told.push_str(" and something else where all calls are one list")?;
+        told.text
+            .push_str(" and something else where all calls are one list")?;
     }
     desk.calls.push(PlannerCall::Solve(last))?;
     Ok(())
@@ -91,7 +99,7 @@ pub(crate) fn solve_by_burst(
     desk: &mut Desk,
     work: &mut [WorkRow<PortLimit, Burst>],
     words: &mut Words<'_>,
-    told: &mut String,
+    told: &mut Told,
 ) -> Result<(), Fault> {
     let limit = desk.port()?.limit();
     let allowance = words.long()?;
@@ -110,15 +118,16 @@ pub(crate) fn solve_by_burst(
     );
     match outcome {
         Ok(solved) => write!(
-            told,
+            told.text,
             "0 {} {} {}",
             solved.total.bytes, solved.total.units, solved.visits
         )?,
-        Err(fault) => write_refusal(told, fault.number(), fault.detail())?,
+        Err(fault) => told.write_refusal(fault.number(), fault.detail(), &fault)?,
     }
     write_rows(told, &desk.by_burst)?;
     if by_issued != outcome || issued_rows.as_slice() != desk.by_burst.as_slice() {
-        told.push_str(" and something else where the plan is issued")?;
+        told.text
+            .push_str(" and something else where the plan is issued")?;
     }
     Ok(())
 }

@@ -33,16 +33,9 @@ impl<'a> Words<'a> {
         Ok(word.parse()?)
     }
 
-    /// The next word as one name or as the first and the last of several, as in `0-62`.
+    /// The next word as one name or as the first and the last of several.
     pub(crate) fn names(&mut self) -> Result<(u16, u16), Fault> {
-        let word = self.next().ok_or(Fault::Unreadable)?;
-        match word.split_once("-") {
-            Some((first, last)) => Ok((short(Some(first))?, short(Some(last))?)),
-            None => {
-                let name = short(Some(word))?;
-                Ok((name, name))
-            }
-        }
+        names_of(self.next().ok_or(Fault::Unreadable)?)
     }
 }
 
@@ -55,13 +48,21 @@ pub(crate) fn pair_of(word: &str) -> Result<Pair, Fault> {
     })
 }
 
-/// A row as in `1:16:67`.
-pub(crate) fn row_of(word: &str) -> Result<Row, Fault> {
-    let (link, pair) = word.split_once(":").ok_or(Fault::Unreadable)?;
-    Ok(Row {
-        link: short(Some(link))?,
-        pair: pair_of(pair)?,
-    })
+/// The rows of one link or of several, each with the pair, as in `1:16:67` or `0-63:128:1`.
+pub(crate) fn push_rows(rows: &mut Vec<Row>, word: &str) -> Result<(), Fault> {
+    let (names, pair) = word.split_once(":").ok_or(Fault::Unreadable)?;
+    let (first, last) = names_of(names)?;
+    let pair = pair_of(pair)?;
+    for link in first..=last {
+        rows.push(Row { link, pair })?;
+    }
+    Ok(())
+}
+
+/// One name, or the first and the last of several, as in `0-62`.
+fn names_of(word: &str) -> Result<(u16, u16), Fault> {
+    let (first, last) = word.split_once("-").unwrap_or((word, word));
+    Ok((short(Some(first))?, short(Some(last))?))
 }
 
 /// A number of 16 bits.

@@ -1,9 +1,7 @@
-//! Layers on limits of any kind, the comparisons of the measures, and the words of refusals.
+//! Layers on limits of any kind, and the comparisons of the measures.
 #![tactic(auto)]
 
 #[cfg(test)]
 mod layers;
 #[cfg(test)]
 mod measures;
-#[cfg(test)]
-mod refusals;

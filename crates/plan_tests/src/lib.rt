@@ -1,7 +1,5 @@
-//! Examples of use of a plan, and the words of its refusals.
+//! Examples of use of a plan.
 #![tactic(auto)]
 
 #[cfg(test)]
 mod examples;
-#[cfg(test)]
-mod refusals;

@@ -1,12 +1,10 @@
-//! Solves and checks of settings: examples of use, under limits and by measures of any author, and of as many links as there may be.
+//! Solves and checks of settings: examples of use, and what goes under limits and by measures of any author.
 #![tactic(auto)]
 
 #[cfg(test)]
 mod calls;
 #[cfg(test)]
 mod examples;
-#[cfg(test)]
-mod most_links;
 #[cfg(test)]
 mod other_limits;
 #[cfg(test)]

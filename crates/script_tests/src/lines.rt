@@ -8,15 +8,14 @@ use std::test::Fail;
 const BEFORE: u8 = 0xEE;
 
 /// The next command has these lines, and past them the buffer is left as it was.
-fn expect_next(rt: &impl Abort, run: &mut Run<'_>, lines: &[u8]) -> Result<(), Fail> {
+fn expect_next(rt: &impl Abort, run: &mut Run<'_>, lines: &[u8]) {
+    let mut expected = [BEFORE; LINES_SIZE];
+    for (place, byte) in expected.iter_mut().zip(lines) {
+        *place = *byte;
+    }
     let mut buffer = [BEFORE; LINES_SIZE];
-    let length = run.next_lines(&mut buffer).ok_or("no command is left")?;
-    let (written, rest) = buffer
-        .split_at_checked(length)
-        .ok_or("too many bytes are told")?;
-    assert_eq!(rt; written, lines);
-    assert!(rt; rest.iter().all(|byte| *byte == BEFORE));
-    Ok(())
+    assert_eq!(rt; run.next_lines(&mut buffer), Some(lines.len()));
+    assert!(rt; buffer == expected);
 }
 
 /// There is no next command, and the buffer is left as it was.
@@ -34,9 +33,9 @@ fn bytes_past_the_lines_stay(rt: HostRuntime) -> Result<(), Fail> {
     for lines in [
         b"1 0\n", b"2 0\n", b"3 0\n", b"4 0\n", b"5 0\n", b"6 0\n", b"7 0\n",
     ] {
-        expect_next(&rt, &mut run, lines)?;
+        expect_next(&rt, &mut run, lines);
     }
-    expect_next(&rt, &mut run, b"8 0 2340 451 42\n1 16 67\n2 32 250\n")?;
+    expect_next(&rt, &mut run, b"8 0 2340 451 42\n1 16 67\n2 32 250\n");
     expect_none(&rt, &mut run);
     expect_none(&rt, &mut run);
     Ok(())
@@ -55,7 +54,7 @@ fn after_a_refusal_that_ends_the_run(rt: HostRuntime) -> Result<(), Fail> {
     ];
     for (script, lines) in cases {
         let mut run = Run::new(script);
-        expect_next(&rt, &mut run, lines)?;
+        expect_next(&rt, &mut run, lines);
         expect_none(&rt, &mut run);
         expect_none(&rt, &mut run);
     }
@@ -67,10 +66,10 @@ fn after_a_refusal_that_ends_the_run(rt: HostRuntime) -> Result<(), Fail> {
 fn steps_between_lines(rt: HostRuntime) -> Result<(), Fail> {
     let script = joined(rt.alloc(), &[PORT, b"L\x00\x07L\x00\x07L\x00\x08"])?;
     let mut run = Run::new(&script);
-    expect_next(&rt, &mut run, b"1 0\n")?;
+    expect_next(&rt, &mut run, b"1 0\n");
     assert!(rt; run.step().is_some());
-    expect_next(&rt, &mut run, b"3 5 0\n")?;
-    expect_next(&rt, &mut run, b"4 0\n")?;
+    expect_next(&rt, &mut run, b"3 5 0\n");
+    expect_next(&rt, &mut run, b"4 0\n");
     assert!(rt; run.step().is_none());
     expect_none(&rt, &mut run);
     Ok(())

@@ -2,8 +2,7 @@
 use crate::scripts::{PORT, TWO_LINKS, joined};
 use arrayvec::ArrayVec;
 use limits::{Pair, PortFault};
-use plan::PlanFault;
-use planner::{Row, SolveFault};
+use planner::Row;
 use script::{Accepted, Cause, Offer, ReaderFault, Run, RunFault, SCRIPT_MAX};
 use std::test::Fail;
 
@@ -52,36 +51,6 @@ fn offers_of_two_links(rt: HostRuntime) -> Result<(), Fail> {
         rows: ArrayVec::try_from(setting.as_slice())?,
     });
     assert_eq!(rt; run.step(), Some(Ok(Accepted { command: 9, offer })));
-    assert_eq!(rt; run.step(), None);
-    assert_eq!(rt; run.step(), None);
-    Ok(())
-}
-
-// The last refusal ends the run, though a command follows.
-#[test]
-fn refusals_of_a_run(rt: HostRuntime) -> Result<(), Fail> {
-    let rest = b"\
-        L\x00\x07\
-        L\x00\x07\
-        S\x03\x00\x00\x00\x00\
-        S\x01\x00\x00\x00\x00\
-        W\x00\x01\
-        QL\x00\x08";
-    let script = joined(rt.alloc(), &[PORT, rest])?;
-    let mut run = Run::new(&script);
-    assert_eq!(rt; run.step(), accepted(1));
-    assert_eq!(rt; run.step(), accepted(2));
-    assert_eq!(rt; run.step(), refused(3, Cause::Plan(PlanFault::LinkTaken)));
-    assert_eq!(rt; run.step(), refused(4, Cause::UnknownMeasure));
-    assert_eq!(rt;
-        run.step(),
-        refused(5, Cause::Solve(SolveFault::LinkWithoutFlow { link: 7 }))
-    );
-    assert_eq!(rt; run.step(), refused(6, Cause::Plan(PlanFault::UnknownFlow)));
-    assert_eq!(rt;
-        run.step(),
-        refused(7, Cause::Reader(ReaderFault::UnknownByte { place: 31 }))
-    );
     assert_eq!(rt; run.step(), None);
     assert_eq!(rt; run.step(), None);
     Ok(())

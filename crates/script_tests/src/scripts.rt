@@ -1,7 +1,4 @@
-use script::write_lines;
 use std::alloc::{AllocError, Global};
-use std::process::Abort;
-use std::test::Fail;
 
 /// 10,000 kbit/s, all of which may be reserved, and no gap below 1 ms: a command of 10 bytes.
 pub(crate) const PORT: &[u8] = b"P\x00\x00\x27\x10\x00\x00\x27\x10\x01";
@@ -23,18 +20,4 @@ pub(crate) fn joined(alloc: Global, parts: &[&[u8]]) -> Result<Vec<u8>, AllocErr
         script.extend_from_slice(part)?;
     }
     Ok(script)
-}
-
-/// The script of these parts has these lines.
-pub(crate) fn expect(
-    rt: &(impl Abort + AllocGlobal),
-    parts: &[&[u8]],
-    lines: &str,
-) -> Result<(), Fail> {
-    let script = joined(rt.alloc(), parts)?;
-    let mut written = Vec::new(rt.alloc());
-    write_lines(&script, &mut written)?;
-    let text = String::from_utf8_lossy(rt.alloc(), &written)?;
-    assert_eq!(rt; text.as_str(), lines, "of {script:?}");
-    Ok(())
 }
