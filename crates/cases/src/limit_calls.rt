@@ -17,8 +17,8 @@ pub(crate) fn tell_pair(words: &mut Words<'_>, told: &mut Told) -> Result<(), Fa
     Ok(())
 }
 
-/// `breach open PAIR ..`, `breach floor GAP PAIR ..`, `breach share RATE PAIR ..`, `breach jitter RATE PAIR ..` and, under the
-/// limit of the port, `breach port PAIR ..`
+/// `breach open PAIR ..`, `breach floor GAP PAIR ..`, `breach share RATE PAIR ..`, `breach jitter RATE PAIR ..` and,
+/// under the limit of the port, `breach port PAIR ..`
 pub(crate) fn tell_breach(
     alloc: Global,
     desk: &Desk,

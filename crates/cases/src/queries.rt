@@ -48,7 +48,8 @@ pub(crate) fn tell_cycle(desk: &Desk, words: &mut Words<'_>, told: &mut Told) ->
     Ok(())
 }
 
-/// `pairs LINK`: the pair at each gap. The plan and the issued plan have to tell the same, and to leave the place at a refusal.
+/// `pairs LINK`: the pair at each gap. The plan and the issued plan have to tell the same, and to leave the place at a
+/// refusal.
 pub(crate) fn tell_pairs(desk: &Desk, words: &mut Words<'_>, told: &mut Told) -> Result<(), Fault> {
     let link = words.short()?;
     let mut place = [MARK; GAP_COUNT];

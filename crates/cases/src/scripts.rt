@@ -26,7 +26,8 @@ pub(crate) fn add_bytes(
     Ok(())
 }
 
-/// `lines`: the lines of the script, parted by a slash. The run as a whole and command by command have to write the same.
+/// `lines`: the lines of the script, parted by a slash. The run as a whole and command by command have to write the
+/// same.
 pub(crate) fn tell_lines(alloc: Global, desk: &mut Desk, told: &mut Told) -> Result<(), Fault> {
     let mut written = Vec::new(alloc);
     write_lines(&desk.script, &mut written)?;

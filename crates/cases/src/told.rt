@@ -5,8 +5,8 @@ use planner::Row;
 use std::alloc::{AllocError, Global};
 use std::fmt;
 
-/// What a call tells, as the files write it: 0 where it is accepted, else the number and the detail of the refusal. Beside it the
-/// words of the refusal.
+/// What a call tells, as the files write it: 0 where it is accepted, else the number and the detail of the refusal.
+/// Beside it the words of the refusal.
 #[derive(Drop)]
 pub(crate) struct Told {
     pub(crate) text: String,
