@@ -4,7 +4,7 @@ use std::io;
 use std::num::ParseIntError;
 
 /// Why a line is not performed.
-#[derive(Clone, Copy, Debug, PartialEq, Eq)]
+#[derive(Clone, Copy)]
 pub(crate) enum Fault {
     Memory,
     Unreadable,

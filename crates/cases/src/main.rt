@@ -5,7 +5,6 @@ mod desk;
 mod edits;
 mod fault;
 mod limit_calls;
-mod line;
 mod perform;
 mod queries;
 mod scripts;
@@ -17,7 +16,6 @@ mod told;
 mod words;
 
 use desk::Desk;
-use line::Line;
 use perform::perform;
 use std::alloc::Global;
 use std::{env, fs, io};
@@ -45,25 +43,26 @@ fn hold_file(
     text: &str,
 ) -> io::Result<()> {
     let mut desk = Desk::new(alloc)?;
-    let mut tally = Tally::default();
+    let mut tally = Tally::new();
     for (number, line) in (1_u32..).zip(text.lines()) {
-        match Line::of(line) {
-            Line::Note => {}
-            Line::Case => {
-                desk = Desk::new(alloc)?;
-                tally.note_case();
-            }
-            Line::Call { call, must } => {
-                let told = perform(alloc, &mut desk, tables, call)?;
-                let is_as_it_must = told.as_str().trim() == must;
-                tally.note_call(is_as_it_must);
-                if !is_as_it_must {
-                    println!(rt;
-                        "{name}, line {number}: told `{told}`, where it must be `{must}`"
-                    )?;
-                }
-            }
-            Line::Unreadable => println!(rt; "{name}, line {number}: no call, case or comment")?,
+        if line.is_empty() || line.starts_with("#") {
+            continue;
+        }
+        if line.starts_with("case ") {
+            tally.note_case();
+            desk = Desk::new(alloc)?;
+            continue;
+        }
+        let Some((call, must)) = line.split_once("->") else {
+            println!(rt; "{name}, line {number}: no call, case or comment")?;
+            continue;
+        };
+        let answer = perform(alloc, &mut desk, tables, call)?;
+        let told = answer.as_str().trim();
+        let must = must.trim();
+        tally.note_call(told == must);
+        if told != must {
+            println!(rt; "{name}, line {number}: told `{told}`, where it must be `{must}`")?;
         }
     }
     println!(rt; "{name}: {tally}")

@@ -1,7 +1,7 @@
 use std::fmt;
 
 /// How many cases and calls there were, and how many calls told what they must.
-#[derive(Clone, Copy, Debug, Default)]
+#[derive(Clone, Copy)]
 pub(crate) struct Tally {
     cases: u32,
     calls: u32,
@@ -9,6 +9,15 @@ pub(crate) struct Tally {
 }
 
 impl Tally {
+    /// Nothing yet.
+    pub(crate) fn new() -> Tally {
+        Tally {
+            cases: 0,
+            calls: 0,
+            held: 0,
+        }
+    }
+
     /// Notes a case.
     pub(crate) fn note_case(&mut self) {
         self.cases = self.cases.saturating_add(1);
