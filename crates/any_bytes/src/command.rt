@@ -1,7 +1,7 @@
 use std::alloc::{AllocError, Global};
 
 /// A command of a script, with the numbers that its operands spell.
-#[derive(Clone, Copy, Debug, PartialEq, Eq)]
+#[derive(Clone, Copy)]
 pub(crate) enum Command {
     Port {
         rate: u32,

@@ -12,7 +12,7 @@ use std::alloc::Global;
 const SCRIPT_MAX: usize = 32_768;
 
 /// What the first line of a command says.
-#[derive(Clone, Copy, Debug, PartialEq, Eq)]
+#[derive(Clone, Copy)]
 enum Answer {
     Accepted,
     Offered { totals: Totals, visits: u32 },

@@ -17,7 +17,7 @@ pub(crate) const KINDS: [Kind; 14] = [
 ];
 
 /// What a script is made by.
-#[derive(Clone, Copy, Debug, PartialEq, Eq)]
+#[derive(Clone, Copy)]
 pub(crate) enum Kind {
     AnyBytes,
     AnyCommands,

@@ -9,7 +9,7 @@ const MTU_MAX: u32 = 1471;
 const FRAME_REST: u64 = 67;
 
 /// What the rows of an accepted solve reserve, and the bytes of their frames.
-#[derive(Clone, Copy, Debug, PartialEq, Eq)]
+#[derive(Clone, Copy, PartialEq, Eq)]
 pub(crate) struct Totals {
     pub(crate) units: u64,
     pub(crate) bytes: u64,

@@ -2,7 +2,7 @@
 use crate::command::Command;
 
 /// What stands next in a script.
-#[derive(Clone, Copy, Debug, PartialEq, Eq)]
+#[derive(Clone, Copy)]
 pub(crate) enum Next {
     End,
     UnknownByte,

@@ -15,7 +15,7 @@ const PAYLOAD_MAX: u16 = 8192;
 const CYCLE_MAX: u16 = 10_000;
 
 /// The figures of a port.
-#[derive(Clone, Copy, Debug, PartialEq, Eq)]
+#[derive(Clone, Copy)]
 pub(crate) struct Port {
     pub(crate) rate: u32,
     pub(crate) share: u32,
@@ -23,14 +23,14 @@ pub(crate) struct Port {
 }
 
 /// A flow that stands, without its figures.
-#[derive(Clone, Copy, Debug, PartialEq, Eq)]
+#[derive(Clone, Copy)]
 struct Flow {
     name: u16,
     link: u16,
 }
 
 /// The number and the detail of a refusal.
-#[derive(Clone, Copy, Debug, PartialEq, Eq)]
+#[derive(Clone, Copy, PartialEq, Eq)]
 pub(crate) struct Refusal {
     pub(crate) number: u32,
     pub(crate) detail: u32,

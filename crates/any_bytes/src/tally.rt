@@ -6,7 +6,7 @@ const NUMBERS: [u32; 22] = [
 ];
 
 /// How often each number was told, and how many of the accepted commands are solves.
-#[derive(Clone, Copy, Debug, Default)]
+#[derive(Clone, Copy, Default)]
 pub(crate) struct Told {
     pub(crate) offers: u32,
     times: [u32; NUMBERS.len()],
@@ -32,7 +32,7 @@ impl Told {
 }
 
 /// What has come of some scripts.
-#[derive(Clone, Copy, Debug, Default)]
+#[derive(Clone, Copy, Default)]
 pub(crate) struct Tally {
     scripts: u32,
     lines: usize,

@@ -1,7 +1,7 @@
 use std::alloc::AllocError;
 
 /// What is wrong with what was written of a script.
-#[derive(Clone, Copy, Debug, PartialEq, Eq)]
+#[derive(Clone, Copy, Debug)]
 pub(crate) enum Wrong {
     /// The text does not end in a newline.
     NoNewline,

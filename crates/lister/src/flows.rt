@@ -1,7 +1,7 @@
 use crate::random::Random;
 
 /// What the flows of a port are like.
-#[derive(Clone, Copy, Debug, PartialEq, Eq)]
+#[derive(Clone, Copy)]
 pub(crate) enum Traffic {
     /// Short cycles, so that few gaps serve.
     Busy,
@@ -14,7 +14,7 @@ pub(crate) enum Traffic {
 }
 
 /// The payload and the cycle of a flow.
-#[derive(Clone, Copy, Debug)]
+#[derive(Clone, Copy)]
 pub(crate) struct Message {
     pub(crate) payload: u16,
     pub(crate) cycle: u16,

@@ -2,7 +2,7 @@ use std::fmt;
 
 /// What the planners are held against each other on: a worked port by its place in the list, a figure of the
 /// documents by its number, or a random port or link by the seed that it is made from.
-#[derive(Clone, Copy, Debug, PartialEq, Eq)]
+#[derive(Clone, Copy)]
 pub(crate) enum Subject {
     Worked(usize),
     Documented(u64),

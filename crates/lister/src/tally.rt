@@ -2,7 +2,7 @@ use crate::second::told::Refusal;
 use std::io;
 
 /// What was done, and how it ended.
-#[derive(Clone, Copy, Debug, Default)]
+#[derive(Clone, Copy, Default)]
 pub(crate) struct Tally {
     edits: u64,
     solves: u64,

@@ -8,7 +8,7 @@ use std::array;
 use std::test::Fail;
 
 /// Adds a flow.
-fn add<L, M>(link: u16, flow: u16, payload: u16, cycle: u16) -> PlannerCall<L, M> {
+fn add(link: u16, flow: u16, payload: u16, cycle: u16) -> PlannerCall<Floor, Burst> {
     PlannerCall::Edit(Call::AddFlow {
         link,
         flow,

@@ -1,5 +1,4 @@
 use crate::plans::{BEFORE, row, two_links};
-use crate::solving::found;
 use limits::{Port, PortLimit, Reserve};
 use planner::{IssuedPlan, SettingFault, SolveFault, WorkRow, check_port_setting, solve, work_row};
 use std::array;
@@ -22,23 +21,5 @@ fn a_setting_is_found_and_checked(rt: HostRuntime) -> Result<(), Fail> {
         check_port_setting(&plan, slow, &answer),
         Err(SettingFault::NotWithin { breach: 2 })
     );
-    Ok(())
-}
-
-#[test]
-fn an_issued_plan_is_solved(rt: HostRuntime) -> Result<(), Fail> {
-    let issued = IssuedPlan::issue(two_links()?);
-    let limit = Port::new(10_000, 10_000, 1)?.limit();
-    let mut answer = [BEFORE; 3];
-    let mut work: [WorkRow<PortLimit, Reserve>; 3] = array::from_fn(|_| work_row(&limit, &Reserve));
-    assert_eq!(rt;
-        issued.solve(&limit, &Reserve, 41, &mut answer, &mut work),
-        Err(SolveFault::Spent)
-    );
-    assert_eq!(rt;
-        issued.solve(&limit, &Reserve, 42, &mut answer, &mut work),
-        found(2340, 42)
-    );
-    assert_eq!(rt; answer, [row(1, 16, 67), row(2, 32, 250), BEFORE]);
     Ok(())
 }

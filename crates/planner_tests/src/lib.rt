@@ -1,4 +1,4 @@
-//! Solves and checks of settings: examples of use, and what goes under limits and by measures of any author.
+//! Plans, solves and checks of settings: examples of use, and what goes under limits and by measures of any author.
 #![tactic(auto)]
 
 #[cfg(test)]
@@ -9,6 +9,8 @@ mod examples;
 mod other_limits;
 #[cfg(test)]
 mod own;
+#[cfg(test)]
+mod plan_examples;
 #[cfg(test)]
 mod plans;
 #[cfg(test)]

@@ -1,5 +1,5 @@
 //! The buffer that is lent for the lines of a command.
-use crate::scripts::{PORT, TWO_LINKS, joined};
+use crate::scripts::TWO_LINKS;
 use script::{LINES_SIZE, Run, write_lines};
 use std::process::Abort;
 use std::test::Fail;
@@ -27,15 +27,14 @@ fn expect_none(rt: &impl Abort, run: &mut Run<'_>) {
 
 #[test]
 fn bytes_past_the_lines_stay(rt: HostRuntime) -> Result<(), Fail> {
-    let solve = b"S\x01\x00\x00\x00\x2A";
-    let script = joined(rt.alloc(), &[PORT, TWO_LINKS, solve])?;
-    let mut run = Run::new(&script);
+    let mut run = Run::new(TWO_LINKS);
     for lines in [
         b"1 0\n", b"2 0\n", b"3 0\n", b"4 0\n", b"5 0\n", b"6 0\n", b"7 0\n",
     ] {
         expect_next(&rt, &mut run, lines);
     }
     expect_next(&rt, &mut run, b"8 0 2340 451 42\n1 16 67\n2 32 250\n");
+    expect_next(&rt, &mut run, b"9 0 18688 146 36\n1 1 5\n2 1 7\n");
     expect_none(&rt, &mut run);
     expect_none(&rt, &mut run);
     Ok(())
@@ -64,8 +63,7 @@ fn after_a_refusal_that_ends_the_run(rt: HostRuntime) -> Result<(), Fail> {
 // `step` and `next_lines` perform one command each.
 #[test]
 fn steps_between_lines(rt: HostRuntime) -> Result<(), Fail> {
-    let script = joined(rt.alloc(), &[PORT, b"L\x00\x07L\x00\x07L\x00\x08"])?;
-    let mut run = Run::new(&script);
+    let mut run = Run::new(b"P\x00\x00\x27\x10\x00\x00\x27\x10\x01L\x00\x07L\x00\x07L\x00\x08");
     expect_next(&rt, &mut run, b"1 0\n");
     assert!(rt; run.step().is_some());
     expect_next(&rt, &mut run, b"3 5 0\n");
@@ -78,10 +76,10 @@ fn steps_between_lines(rt: HostRuntime) -> Result<(), Fail> {
 // The second line does not fit.
 #[test]
 fn a_writer_that_fails(rt: HostRuntime) -> Result<(), Fail> {
-    let script = joined(rt.alloc(), &[PORT, b"L\x00\x07"])?;
+    let script = b"P\x00\x00\x27\x10\x00\x00\x27\x10\x01L\x00\x07";
     let mut place = [BEFORE; 6];
     let mut rest = place.as_mut_slice();
-    assert!(rt; write_lines(&script, &mut rest).is_err());
+    assert!(rt; write_lines(script, &mut rest).is_err());
     assert_eq!(rt; place.as_slice(), b"1 0\n2 ".as_slice());
     Ok(())
 }

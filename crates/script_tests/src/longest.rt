@@ -1,5 +1,5 @@
 //! The longest script, and one byte more.
-use crate::scripts::{PORT, joined};
+use crate::scripts::PORT;
 use script::{Reader, ReaderFault, SCRIPT_MAX, write_lines};
 use std::alloc::{AllocError, Global};
 use std::io::Write;
@@ -7,7 +7,7 @@ use std::test::Fail;
 
 /// The figures of the port, the same link 10,917 times, and an amendment of 7 bytes: 10 + 3 × 10,917 + 7 = 32,768.
 fn longest_script(alloc: Global) -> Result<Vec<u8>, AllocError> {
-    let mut script = joined(alloc, &[PORT])?;
+    let mut script = PORT.to_vec(alloc)?;
     for _ in 0..10_917 {
         script.extend_from_slice(b"L\x00\x07")?;
     }

@@ -1,5 +1,5 @@
 //! A run, one command at a time.
-use crate::scripts::{PORT, TWO_LINKS, joined};
+use crate::scripts::TWO_LINKS;
 use arrayvec::ArrayVec;
 use limits::{Pair, PortFault};
 use planner::Row;
@@ -29,9 +29,7 @@ fn row(link: u16, gap: u16, mtu: u16) -> Row {
 
 #[test]
 fn offers_of_two_links(rt: HostRuntime) -> Result<(), Fail> {
-    let solves = b"S\x01\x00\x00\x00\x2AS\x02\x00\x00\x00\x24";
-    let script = joined(rt.alloc(), &[PORT, TWO_LINKS, solves])?;
-    let mut run = Run::new(&script);
+    let mut run = Run::new(TWO_LINKS);
     for command in 1..8 {
         assert_eq!(rt; run.step(), accepted(command));
     }

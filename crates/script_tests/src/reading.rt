@@ -1,5 +1,4 @@
 //! A reader on its own.
-use crate::scripts::{PORT, joined};
 use plan::Call;
 use script::{Command, PlacedCommand, Reader, ReaderFault};
 use std::test::Fail;
@@ -92,20 +91,25 @@ fn refused_reads(rt: HostRuntime) {
 #[test]
 fn reads_refused_after_a_command(rt: HostRuntime) -> Result<(), Fail> {
     let cases: [(&[u8], ReaderFault); 4] = [
-        (b"W\x00\x01\x57", ReaderFault::OperandsCut { place: 13 }),
-        (b"W\x00\x01\x58", ReaderFault::UnknownByte { place: 13 }),
         (
-            b"W\x00\x01P\x00\x00\x00\x00\x00\x00\x00\x00",
+            b"P\x00\x00\x27\x10\x00\x00\x27\x10\x01W\x00\x01\x57",
             ReaderFault::OperandsCut { place: 13 },
         ),
         (
-            b"W\x00\x01P\x00\x00\x00\x00\x00\x00\x00\x00\x00",
+            b"P\x00\x00\x27\x10\x00\x00\x27\x10\x01W\x00\x01\x58",
+            ReaderFault::UnknownByte { place: 13 },
+        ),
+        (
+            b"P\x00\x00\x27\x10\x00\x00\x27\x10\x01W\x00\x01P\x00\x00\x00\x00\x00\x00\x00\x00",
+            ReaderFault::OperandsCut { place: 13 },
+        ),
+        (
+            b"P\x00\x00\x27\x10\x00\x00\x27\x10\x01W\x00\x01P\x00\x00\x00\x00\x00\x00\x00\x00\x00",
             ReaderFault::PortMisplaced { place: 13 },
         ),
     ];
-    for (rest, fault) in cases {
-        let script = joined(rt.alloc(), &[PORT, rest])?;
-        let mut reader = Reader::new(&script);
+    for (script, fault) in cases {
+        let mut reader = Reader::new(script);
         assert_eq!(rt;
             reader.next_command(),
             placed(
@@ -119,7 +123,7 @@ fn reads_refused_after_a_command(rt: HostRuntime) -> Result<(), Fail> {
         );
         assert_eq!(rt; reader.next_command(), edit(10, Call::Withdraw { flow: 1 }));
         for _ in 0..2 {
-            assert_eq!(rt; reader.next_command(), Err(fault), "of {rest:?}");
+            assert_eq!(rt; reader.next_command(), Err(fault), "of {script:?}");
         }
     }
     Ok(())

@@ -1,7 +1,7 @@
 use limits::Pair;
 
 /// A rule that a port may have for the pairs of its links.
-#[derive(Clone, Copy, Debug, PartialEq, Eq)]
+#[derive(Clone, Copy)]
 pub(crate) enum Rule {
     /// No gap is below so many ms.
     Floor(u32),

@@ -12,7 +12,7 @@ pub(crate) struct Field<'a> {
 }
 
 /// A complete selection in the list: whether it is within the limit, and what it totals.
-#[derive(Clone, Copy, Debug)]
+#[derive(Clone, Copy)]
 pub(crate) struct Listed {
     pub(crate) within: bool,
     pub(crate) total: Total,

@@ -4,7 +4,7 @@ use plan::Call;
 use std::alloc::{AllocError, Global};
 
 /// A flow of a link.
-#[derive(Clone, Copy, Debug, PartialEq, Eq)]
+#[derive(Clone, Copy, PartialEq, Eq)]
 pub(crate) struct TableFlow {
     pub(crate) name: u16,
     pub(crate) link: u16,

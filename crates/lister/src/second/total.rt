@@ -2,7 +2,7 @@ use crate::second::rules::{total_bytes, total_units};
 use limits::Pair;
 
 /// A measure.
-#[derive(Clone, Copy, Debug, PartialEq, Eq)]
+#[derive(Clone, Copy, Debug)]
 pub(crate) enum MeasureKind {
     Reserve,
     Burst,

@@ -1,5 +1,0 @@
-//! Examples of use of a plan.
-#![tactic(auto)]
-
-#[cfg(test)]
-mod examples;
