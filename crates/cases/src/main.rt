@@ -11,7 +11,6 @@ mod scripts;
 mod settings;
 mod solves;
 mod tables;
-mod tally;
 mod told;
 mod words;
 
@@ -20,7 +19,6 @@ use perform::perform;
 use std::alloc::Global;
 use std::{env, fs, io};
 use tables::Tables;
-use tally::Tally;
 
 fn main(rt: HostRuntime) -> io::Result<()> {
     let mut tables = Tables::new();
@@ -43,13 +41,16 @@ fn hold_file(
     text: &str,
 ) -> io::Result<()> {
     let mut desk = Desk::new(alloc)?;
-    let mut tally = Tally::new();
-    for (number, line) in (1_u32..).zip(text.lines()) {
+    let mut cases = 0_u32;
+    let mut calls = 0_u32;
+    let mut held = 0_u32;
+    for (index, line) in text.lines().enumerate() {
+        let number = index.saturating_add(1);
         if line.is_empty() || line.starts_with("#") {
             continue;
         }
         if line.starts_with("case ") {
-            tally.note_case();
+            cases = cases.saturating_add(1);
             desk = Desk::new(alloc)?;
             continue;
         }
@@ -60,10 +61,12 @@ fn hold_file(
         let answer = perform(alloc, &mut desk, tables, call)?;
         let told = answer.as_str().trim();
         let must = must.trim();
-        tally.note_call(told == must);
-        if told != must {
+        calls = calls.saturating_add(1);
+        if told == must {
+            held = held.saturating_add(1);
+        } else {
             println!(rt; "{name}, line {number}: told `{told}`, where it must be `{must}`")?;
         }
     }
-    println!(rt; "{name}: {tally}")
+    println!(rt; "{name}: {cases} cases, and {held} of {calls} calls tell what they must")
 }

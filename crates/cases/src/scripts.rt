@@ -2,7 +2,7 @@ use crate::desk::Desk;
 use crate::fault::Fault;
 use crate::told::Told;
 use crate::words::Words;
-use script::{LINES_SIZE, Run, SCRIPT_MAX, write_lines};
+use script::{Run, SCRIPT_MAX, write_lines};
 use std::alloc::{AllocError, Global};
 
 /// `bytes HEX ..`: more bytes of the script, each so many times as in `3*4C0007`. It tells how many there are now.
@@ -26,8 +26,7 @@ pub(crate) fn add_bytes(
     Ok(())
 }
 
-/// `lines`: the lines of the script, parted by a slash. The run as a whole and command by command have to write the
-/// same.
+/// `lines`: the lines of the script, parted by slashes.
 pub(crate) fn tell_lines(alloc: Global, desk: &mut Desk, told: &mut Told) -> Result<(), Fault> {
     let mut written = Vec::new(alloc);
     write_lines(&desk.script, &mut written)?;
@@ -37,10 +36,6 @@ pub(crate) fn tell_lines(alloc: Global, desk: &mut Desk, told: &mut Told) -> Res
             told.text.push_str(" / ")?;
         }
         told.text.push_str(line)?;
-    }
-    if written.as_slice() != text_by_steps(alloc, &desk.script)?.as_slice() {
-        told.text
-            .push_str(" and something else command by command")?;
     }
     write_last_refusal(&desk.script, told)?;
     desk.script.clear();
@@ -61,18 +56,4 @@ fn write_last_refusal(script: &[u8], told: &mut Told) -> Result<(), AllocError> 
         }
     }
     Ok(())
-}
-
-/// The lines of each command, one after the other. A script has no more commands than bytes.
-fn text_by_steps(alloc: Global, script: &[u8]) -> Result<Vec<u8>, AllocError> {
-    let mut text = Vec::new(alloc);
-    let mut run = Run::new(script);
-    let mut buffer = [0; LINES_SIZE];
-    for _ in 0..SCRIPT_MAX {
-        let Some(length) = run.next_lines(&mut buffer) else {
-            break;
-        };
-        text.extend_from_slice(buffer.get(..length).unwrap_or(&buffer))?;
-    }
-    Ok(text)
 }

@@ -1,5 +1,5 @@
 use crate::desk::BEFORE;
-use limits::{GAPS, Pair};
+use limits::Pair;
 use plan::{Flow, PlanFault};
 use planner::Row;
 use std::alloc::{AllocError, Global};
@@ -54,12 +54,11 @@ pub(crate) fn write_flow(told: &mut Told, flow: &Flow) -> Result<(), AllocError>
     )
 }
 
-/// The pairs at the gaps, as in `1:17`, each with a minus where there is none.
+/// The places for the pairs at the gaps, each as in `1:17`, or a minus where there is none.
 pub(crate) fn write_places(told: &mut Told, places: &[Option<Pair>]) -> Result<(), AllocError> {
-    for (place, gap) in places.iter().zip(GAPS) {
-        match *place {
-            Some(pair) if pair.gap == gap => write!(told.text, " {gap}:{}", pair.mtu)?,
-            Some(pair) => write!(told.text, " {}:{} at {gap}", pair.gap, pair.mtu)?,
+    for place in places {
+        match place {
+            Some(pair) => write!(told.text, " {}:{}", pair.gap, pair.mtu)?,
             None => told.text.push_str(" -")?,
         }
     }
