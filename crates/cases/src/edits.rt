@@ -89,7 +89,7 @@ pub(crate) fn withdraw(
 }
 
 /// Tells where something else stands after a replay of all edits.
-fn tell_replayed(desk: &Desk, told: &mut Told) -> Result<(), Fault> {
+pub(crate) fn tell_replayed(desk: &Desk, told: &mut Told) -> Result<(), Fault> {
     if !desk.is_replayed() {
         told.text
             .push_str(" and something else where all edits are replayed")?;

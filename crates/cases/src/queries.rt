@@ -1,4 +1,5 @@
 use crate::desk::Desk;
+use crate::edits::tell_replayed;
 use crate::fault::Fault;
 use crate::told::{Told, write_flow, write_places, write_plan_answer, write_test};
 use crate::words::{Words, pair_of};
@@ -7,7 +8,7 @@ use limits::{GAP_COUNT, Pair};
 /// What stands in the place that is lent for pairs.
 const MARK: Option<Pair> = Some(Pair { gap: 9, mtu: 9 });
 
-/// `stands`: the links in plan order, and the flows in rising name.
+/// `stands`: the links in plan order, and the flows in rising name. A replay of all edits has to leave the same.
 pub(crate) fn tell_standing(desk: &Desk, told: &mut Told) -> Result<(), Fault> {
     told.text.push_str("links")?;
     for link in desk.plan.links() {
@@ -17,7 +18,7 @@ pub(crate) fn tell_standing(desk: &Desk, told: &mut Told) -> Result<(), Fault> {
     for flow in desk.plan.flows() {
         write_flow(told, flow)?;
     }
-    Ok(())
+    tell_replayed(desk, told)
 }
 
 /// `counts`: how many links and how many flows stand.
