@@ -1,7 +1,7 @@
 use crate::fault::Fault;
 use limits::Pair;
 use planner::Row;
-use std::str::{FromStr, SplitWhitespace};
+use std::str::SplitWhitespace;
 
 /// The words of a call that are left to be read.
 #[derive(Drop)]

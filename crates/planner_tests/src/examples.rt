@@ -1,6 +1,6 @@
 use crate::plans::{BEFORE, row, two_links};
 use limits::{Port, PortLimit, Reserve};
-use planner::{IssuedPlan, SettingFault, SolveFault, WorkRow, check_port_setting, solve, work_row};
+use planner::{SettingFault, WorkRow, check_port_setting, solve, work_row};
 use std::array;
 use std::test::Fail;
 
@@ -12,8 +12,8 @@ fn a_setting_is_found_and_checked(rt: HostRuntime) -> Result<(), Fail> {
     let limit = port.limit();
     let mut answer = [BEFORE; 2];
     let mut work: [WorkRow<PortLimit, Reserve>; 3] = array::from_fn(|_| work_row(&limit, &Reserve));
-    let told = solve(&plan, &limit, &Reserve, 100, &mut answer, &mut work);
-    assert_eq!(rt; told.map(|solved| solved.total), Ok(2340));
+    let solved = solve(&plan, &limit, &Reserve, 100, &mut answer, &mut work)?;
+    assert_eq!(rt; solved.total, 2340);
     assert_eq!(rt; answer, [row(1, 16, 67), row(2, 32, 250)]);
     assert_eq!(rt; check_port_setting(&plan, port, &answer), Ok(()));
     let slow = Port::new(10_000, 146, 16)?;
