@@ -1,3 +1,4 @@
+pub mod AllYes
 pub mod Both
 pub mod Judged
 pub mod Shift
