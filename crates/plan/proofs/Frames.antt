@@ -15,11 +15,11 @@ frames_fewest l m k pos h =
     let less : frames l m < k + 1 = lt_of_mul-lt-mul_right m (omega (arith, (div_ceil_times l m pos).1)) in
     omega arith
 
-frames_le_payload : (l m : ℕ) → 0 < m → frames l m ≤ l
+pub frames_le_payload : (l m : ℕ) → 0 < m → frames l m ≤ l
 frames_le_payload l m pos = frames_fewest l m l pos (le-mul_of_pos_right l pos)
 
 -- a larger MTU needs no more frames
-frames_fall : (l m m' : ℕ) → 0 < m → m ≤ m' → frames l m' ≤ frames l m
+pub frames_fall : (l m m' : ℕ) → 0 < m → m ≤ m' → frames l m' ≤ frames l m
 frames_fall l m m' pos h =
     frames_fewest l m' (frames l m) (omega arith) (omega (arith, frames_enough l m pos, mul-le-mul_left (frames l m) h))
 

@@ -19,7 +19,7 @@ enough (suc n) (suc m) a (suc b) p q =
     let less = mod-lt a {m = suc b} pos in
     enough n m (suc b) (a % suc b) (omega arith) (omega arith)
 
-gcd_more : (a b : ℕ) → 0 < b → gcd a b ≡ gcd b (a % b)
+pub gcd_more : (a b : ℕ) → 0 < b → gcd a b ≡ gcd b (a % b)
 unfolding gcd gcd_in
 gcd_more a zero h = absurd (omega arith)
 gcd_more a (suc b) h =
@@ -49,7 +49,7 @@ gcd_is : (a b : ℕ) → IsGcd a b (gcd a b)
 gcd_is = gcd_ind IsGcd (λ a. IsGcd-from_zero a 0 refl) (λ a b g _ h. IsGcd-from_mod a b g h)
 
 -- what divides x times both divides x times their greatest common divisor
-gcd_greatest : (k x a b : ℕ) → k ∣ x * a → k ∣ x * b → k ∣ x * gcd a b
+pub gcd_greatest : (k x a b : ℕ) → k ∣ x * a → k ∣ x * b → k ∣ x * gcd a b
 gcd_greatest k x a b =
     gcd_ind (λ a b g. k ∣ x * a → k ∣ x * b → k ∣ x * g) (λ a p q. p)
     (λ a b g pos h p q.
@@ -86,7 +86,7 @@ lcm_pos a b p q = pos_of_dvd_of_pos (lcm_least a b (a * b) q (dvd-mul_right a b)
 pub lcm_above : (a b : ℕ) → 0 < a → 0 < b → a ≤ lcm a b
 lcm_above a b p q = le_of_dvd (lcm_pos a b p q) (lcm_left a b)
 
-lcm_comm : (a b : ℕ) → 0 < a → 0 < b → lcm a b ≡ lcm b a
+pub lcm_comm : (a b : ℕ) → 0 < a → 0 < b → lcm a b ≡ lcm b a
 lcm_comm a b p q = dvd_antisymm (lcm_least a b (lcm b a) q (lcm_right b a) (lcm_left b a)) (lcm_least b a (lcm a b) p (lcm_right a b) (lcm_left a b))
 
 pub lcm_assoc : (a b c : ℕ) → 0 < b → 0 < c → lcm (lcm a b) c ≡ lcm a (lcm b c)
