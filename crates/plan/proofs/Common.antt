@@ -3,9 +3,9 @@ use mathlib.Core.List.{List, [], ◌∷◌}
 use Prim.Native.Nat.{ℕ, ◌<◌, ◌∣◌}
 use native.Mathlib.Nat.{dvd_trans, one-dvd}
 use native.Mathlib.Omega.{arith}
-use Rattle.std.proofs.Common.{drop}
+use Rattle.std.proofs.Common.{Bool, drop, filter}
 use Rattle.std.specs.List.{AllByRecursion}
-use Rattle.std.proofs.ByRecursion.{All-weaker, All-drop}
+use Rattle.std.proofs.ByRecursion.{All-weaker, All-drop, all_kept_by}
 use Rattle.std.proofs.lemmas.Grind.{common_steps}
 use Rattle.plan.specs.declared.flow.Flow.{Flow}
 use Rattle.plan.specs.Cycle.{lcm, common, LeastCommon}
@@ -26,8 +26,12 @@ positive fs r = All-weaker _ (λ f. 0 < f.cycle) (λ f e. e.2) fs r
 pub common_pos : (fs : List Flow) → AllInRange fs → 0 < common fs
 common_pos fs r = positive_common fs (positive fs r)
 
-pub rest_pos : (fs : List Flow) (i : ℕ) → AllInRange fs → 0 < common (drop i fs)
-rest_pos fs i r = common_pos (drop i fs) (All-drop InRange i fs r)
+-- so it is for those of the flows that pass a test
+pub kept_pos : (test : Flow → Bool) (fs : List Flow) → AllInRange fs → 0 < common (filter test fs)
+kept_pos test fs r = common_pos (filter test fs) (all_kept_by test InRange fs r)
+
+pub rest_pos : (test : Flow → Bool) (fs : List Flow) (i : ℕ) → AllInRange fs → 0 < common (filter test (drop i fs))
+rest_pos test fs i r = kept_pos test (drop i fs) (All-drop InRange i fs r)
 
 pub common_divided : (fs : List Flow) → AllByRecursion (λ f. f.cycle ∣ common fs) fs
 common_divided [] = tt

@@ -17,6 +17,7 @@ use Rattle.plan.specs.Standing.{Standing, stands, named, link_of_flow, is_of, of
 use Rattle.plan.proofs.Empty.{nil}
 use Rattle.plan.proofs.Every.{Up, Up_from_rising, rising_from_Up}
 use Rattle.plan.proofs.Found.{found, found_within, found_flow}
+use Rattle.plan.proofs.Removed.{filter_again}
 
 pub record Good (st : Standing) : Type 0 where
   pub few_links : length st.links ≤ max_links
@@ -74,13 +75,19 @@ short_of st k g =
 pub few_kept : {X : Type 0} (test : X → Bool) (xs : List X) (i : ℕ) → i ≤ length xs → length (filter test (take i xs)) ≤ i
 few_kept test xs i le = omega (arith, length-filter test (take i xs), count_by-le-length test (take i xs), length-take-le i xs le)
 
-pub regular : (st : Standing) (k : ℕ) → good st ≡ true → Regular (flows_of st k)
+pub regular : (st : Standing) (k : ℕ) → good st ≡ true → Regular k st.flows
 regular st k h =
+    let g = facts_from_good st h in
+    record { range = all_in_range st g; few = g.few_flows; short = short_of st k g }
+
+-- so are the flows of a link side by side
+pub own_regular : (st : Standing) (k : ℕ) → good st ≡ true → Regular k (flows_of st k)
+own_regular st k h =
     let g = facts_from_good st h in
     let fewer = count_by-le-length (is_of k) st.flows in
     let same = length-filter (is_of k) st.flows in
     record {
       range = all_kept_by (is_of k) InRange st.flows (all_in_range st g);
       few = omega (arith, g.few_flows);
-      short = short_of st k g;
+      short = rw (filter_again (is_of k) st.flows) (short_of st k g);
     }

@@ -10,6 +10,7 @@ pub mod Found
 pub mod Position
 pub mod Inserted
 pub mod Removed
+pub mod Counted
 pub mod Amended
 pub mod Named
 pub mod Good

@@ -1,5 +1,5 @@
 -- A flow struck by its name: its place, what it keeps, and that no common cycle grows.
-use Rattle.std.proofs.Common.{◌≡◌, ℕ, ◌<◌, ◌≤◌, Bool, false, List, [], ◌∷◌, length, filter, refl, le_trans, arith}
+use Rattle.std.proofs.Common.{◌≡◌, ℕ, ◌<◌, ◌≤◌, Bool, false, List, [], ◌∷◌, length, filter, refl, arith}
 use Prim.Native.Nat.{◌∣◌}
 use native.Mathlib.Nat.{le_of_dvd}
 use Rattle.std.specs.List.{remove}
@@ -11,7 +11,7 @@ use Rattle.std.proofs.lemmas.Bool.Decides.{nat_tests}
 use Rattle.plan.specs.declared.flow.Flow.{Flow}
 use Rattle.plan.specs.Cycle.{common}
 use Rattle.plan.specs.Edited.{other_name, without}
-use Rattle.plan.specs.Regular.{InRange, AllInRange, Regular}
+use Rattle.plan.specs.Regular.{InRange, AllInRange}
 use Rattle.plan.specs.Standing.{is_named, named, is_of, of_link}
 use Rattle.plan.proofs.Common.{common_pos, common_divided, common_divides}
 use Rattle.plan.proofs.Every.{Up}
@@ -21,6 +21,11 @@ use Rattle.plan.proofs.Found.{Found, here, there}
 pub filters_swap : {X : Type 0} (p q : X → Bool) (xs : List X) → filter p (filter q xs) ≡ filter q (filter p xs)
 filters_swap p q [] = refl
 filters_swap p q (x ∷ xs) = grind (arith, filters_swap p q xs)
+
+-- what passes a test passes it again
+pub filter_again : {X : Type 0} (p : X → Bool) (xs : List X) → filter p (filter p xs) ≡ filter p xs
+filter_again p [] = refl
+filter_again p (x ∷ xs) = grind (arith, filter_again p xs)
 
 pub without_none : (n : ℕ) (fs : List Flow) → named fs n ≡ false → without n fs ≡ fs
 without_none n [] h = refl
@@ -49,18 +54,10 @@ length-without_found {n} (here {f = f} {fs = fs} e none) = grind (arith, nat_tes
 length-without_found {n} (there {f = f} {fs = fs} ne r) = grind (arith, nat_tests, length-without_found r)
 
 -- a common cycle divides that of more flows
-common-without_of : (n : ℕ) (fs : List Flow) → AllInRange fs → common (without n fs) ≤ common fs
+pub common-without_of : (n : ℕ) (fs : List Flow) → AllInRange fs → common (without n fs) ≤ common fs
 common-without_of n fs r =
     le_of_dvd (common_pos fs r)
     (common_divides (without n fs) (all_kept_by (other_name n) InRange fs r) (common fs) (all_kept_by (other_name n) (λ f. f.cycle ∣ common fs) fs (common_divided fs)))
 
 pub common-without : (k n : ℕ) (fs : List Flow) → AllInRange fs → common (of_link k (without n fs)) ≤ common (of_link k fs)
 common-without k n fs r = rw (filters_swap (is_of k) (other_name n) fs) (common-without_of n (of_link k fs) (all_kept_by (is_of k) InRange fs r))
-
--- the flows of a link without one of them are regular
-pub regular-without : (n : ℕ) (fs : List Flow) → Regular fs → Regular (without n fs)
-regular-without n fs r = record {
-  range = all_kept_by (other_name n) InRange fs r.range;
-  few = le_trans (length_without n fs) r.few;
-  short = le_trans (common-without_of n fs r.range) r.short;
-}

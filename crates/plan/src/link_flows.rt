@@ -1,49 +1,32 @@
-ghost use Rattle.std.specs.Prelude.{◌≡◌, ◌<◌, ◌≤◌};
+ghost use Rattle.std.specs.Prelude.{◌≡◌, ◌≤◌, length};
 ghost use Rattle.std.proofs.Props.{props};
-ghost use Rattle.plan.specs.Bounds.{max_common_cycle};
+ghost use Rattle.plan.specs.Bounds.{max_common_cycle, max_flows};
 ghost use Rattle.plan.specs.Cycle.{common};
-ghost use Rattle.plan.specs.Edited.{without};
-ghost use Rattle.plan.specs.Regular.{Regular};
+ghost use Rattle.plan.specs.Regular.{AllInRange, Regular};
+ghost use Rattle.plan.specs.Standing.{of_link};
 
-use crate::bounds::MAX_FLOWS;
 use crate::cycle::common_cycle;
 use crate::flow::Flow;
-use arrayvec::ArrayVec;
 
-/// The flows of one link, and their common cycle.
-#[derive(Drop)]
-pub(crate) struct LinkFlows {
-    pub(crate) flows: ArrayVec<Flow, MAX_FLOWS>,
+/// The flows of one link, side by side, and their common cycle. The flows are lent, since they are many to be moved.
+#[derive(Clone, Copy)]
+pub(crate) struct LinkFlows<'a> {
+    pub(crate) flows: &'a [Flow],
     pub(crate) cycle: u64,
-    ghost regular: { Regular flows.items } by { Prim.hlevel props },
-    ghost common: { cycle ≡ common flows.items },
+    ghost range: { AllInRange flows.now } by { Prim.hlevel props },
+    ghost few: { length flows.now ≤ max_flows },
+    ghost common: { cycle ≡ common flows.now },
+    ghost short: { cycle ≤ max_common_cycle },
 }
 
-impl LinkFlows {
-    /// These flows, with their common cycle.
-    pub(crate) fn new(flows: ArrayVec<Flow, MAX_FLOWS>) -> LinkFlows
-        requires { Regular flows.items }
-        ensures { result.flows ≡ flows }
+impl<'a> LinkFlows<'a> {
+    /// These flows, which are all the link's.
+    pub(crate) fn new(flows: &'a [Flow], link: u16) -> LinkFlows<'a>
+        requires own { of_link link flows.now ≡ flows.now }
+        requires regular { Regular link flows.now }
+        ensures { result.flows.now ≡ flows.now }
     {
-        let cycle = common_cycle(&flows);
+        let cycle = common_cycle(flows, link, None);
         LinkFlows { flows, cycle }
-    }
-
-    /// The common cycle.
-    #[tactic(auto, using(crate::proofs::Common::common_pos))]
-    pub(crate) fn cycle(&self) -> u64
-        ensures value { result ≡ common self.now.flows.items }
-        ensures range { (0 < result) × (result ≤ max_common_cycle) }
-    {
-        self.cycle
-    }
-
-    /// The flows but the one of that name.
-    pub(crate) fn without(self, name: u16) -> LinkFlows
-        ensures { result.flows.items ≡ without name self.flows.items }
-    {
-        let mut flows = self.flows;
-        flows.retain(|flow| flow.name != name);
-        LinkFlows::new(flows)
     }
 }

@@ -6,15 +6,15 @@ ghost use Rattle.plan.specs.Regular.{InRange};
 use crate::flow::Flow;
 use crate::link_flows::LinkFlows;
 
-impl LinkFlows {
+impl LinkFlows<'_> {
     /// Does the message rule hold at this gap and MTU? In one common cycle every frame has to have its gap.
     #[tactic(auto, using(std::proofs::lemmas::Grind::common_steps, crate::proofs::Exact::exact))]
     pub(crate) fn meets_rule(&self, gap: u16, mtu: u16) -> bool
         requires { 0 < mtu }
-        ensures { result ≡ meets self.now.flows.items gap mtu }
+        ensures { result ≡ meets self.now.flows.now gap mtu }
     {
         let mut frames = 0;
-        for flow in self.flows.as_slice() {
+        for flow in self.flows {
             frames += frames_of(*flow, self.cycle, mtu);
         }
         u64::from(gap) * frames <= self.cycle

@@ -44,7 +44,7 @@ impl Plan {
         if !self.has_link(link) {
             return Err(PlanFault::UnknownLink);
         }
-        Ok(self.flows_of(link).cycle())
+        Ok(self.cycle_of(link, None))
     }
 
     /// Writes the candidate of the link at each gap into the lent place, in rising gap.

@@ -5,5 +5,5 @@ use Rattle.plan.proofs.link_flows.LinkFlows.meets_rule.Given as goal
 
 abbrev pub invariant-loop-flow : goal.invariant-loop-flow
 invariant-loop-flow l =
-    (l.frames + sent l.self.cycle l.mtu (drop l.flow-index l.self.flows.items) ≡ sent l.self.cycle l.mtu l.self.flows.items)
+    (l.frames + sent l.self.cycle l.mtu (drop l.flow-index l.self.flows.now) ≡ sent l.self.cycle l.mtu l.self.flows.now)
     × (l.frames ≤ l.flow-index * (max_payload * max_common_cycle))
